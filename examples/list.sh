@@ -86,9 +86,9 @@ step "before anything is withdrawn" '3' "$(rights | wc -l)"
 step "an empty list withdraws all" 'granted 0 withdrawn 3 (0)' \
     "$(told "$program" rights --exact --now 2000 vault.db empty.toml)"
 
-# A service that begins with a list, by its path: one opening for a change of rights.
+# A service that begins with lists, by their paths.
 serve() {
-    "$program" serve --connections 1 --rights "$1" vault.db > served 2> errors &
+    "$program" serve --connections 1 "$@" vault.db > served 2> errors &
     service=$!
     port=
     tries=0
@@ -99,22 +99,27 @@ serve() {
     done
 }
 printf '[back]\nshop1 = ["audit"]\n' > first.toml
-serve first.toml
+serve --rights first.toml
 step "a service begins with its list" '{"denied":0,"given":0,"made":1} 200' \
     "$(ask back GET /v1/merchants/shop1/audit -H 'Connection: close')"
 wait "$service"
 step "which is all that there is" 'back shop1 audit' "$(rights)"
-: > empty.toml
-serve empty.toml
-step "one with none lets nobody in" '{"refused":8} 403' \
+: > bare.toml
+code=0
+serve --rights bare.toml
+wait "$service" || code=$?
+step "one without a right has to say so" 'refused 70 1' "$(cat served) $code"
+echo '# end' > rightless.toml
+serve --rights rightless.toml
+step "one that does lets nobody in" '{"refused":8} 403' \
     "$(ask back GET /v1/merchants/shop1/audit -H 'Connection: close')"
 wait "$service"
 code=0
-serve unknown.toml
+serve --rights unknown.toml
 wait "$service" || code=$?
 step "one that is refused doesn't listen" 'refused 7 1' "$(cat served) $code"
 code=0
-serve none.toml
+serve --rights none.toml
 wait "$service" || code=$?
 step "nor does one whose list isn't there" 'vault: stopped 80 4' "$(cat served errors) $code"
 
@@ -149,4 +154,22 @@ step "a life out of range is refused" 'refused 76 (1)' "$(told "$program" mercha
 step "and nothing is set" '3' "$(merchants | wc -l)"
 step "a list that isn't there stops it" 'vault: stopped 80 (4)' \
     "$(told "$program" merchants vault.db none.toml)"
+
+# A service sets its merchants first, so its rights may name a new one.
+printf '[shop4]\nsingle = 60\nmulti = 0\n' > fourth.toml
+printf '[back]\nshop4 = ["audit"]\n' > its-rights.toml
+serve --merchants fourth.toml --rights its-rights.toml
+step "a service begins with both lists" '{"denied":0,"given":0,"made":0} 200' \
+    "$(ask back GET /v1/merchants/shop4/audit -H 'Connection: close')"
+wait "$service"
+step "its merchants are there, and no other is gone" '4' "$(merchants | wc -l)"
+: > bare.toml
+code=0
+serve --merchants bare.toml
+wait "$service" || code=$?
+step "a list without a merchant has to say so" 'refused 70 1' "$(cat served) $code"
+code=0
+serve --merchants long.toml
+wait "$service" || code=$?
+step "one with a fault keeps it from starting" 'refused 76 1' "$(cat served) $code"
 end

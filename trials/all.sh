@@ -38,7 +38,7 @@ try memory.sh all
 try bytes.sh --streams 3000
 try units.sh 2000 all
 try outages.sh
-for script in front haproxy office exporter logs batch spread; do
+for script in followed front haproxy office exporter logs batch spread; do
     try "$script.sh"
 done
 echo

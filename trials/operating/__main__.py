@@ -20,6 +20,8 @@ SAYS = {
     "The first merchant": (
         *(r"^done$", ""),
         r"^merchant shop1 single 86400 .*\nright back shop1 detokenize[\s\S]*^sound 1 0 0$",
+        r"^grant till-2 shop1 tokenize\nrights granted 1 withdrawn 0 at [0-9]+$",
+        r"^merchants set 1 at [0-9]+$",
     ),
     "Who may connect": ("",),
     "Certificates": ("",),
@@ -30,7 +32,7 @@ SAYS = {
     "Backup": (r"^(vault-.*)\n\1-wal\n\1.sound$",),
     "Restore": (r"^sound 1 1 1$[\s\S]*^again 0 unknown 0 refused 0$",),
     "Upgrade": ("", r"^schema 4$"),
-    "A till was stolen": (r"^revoked 1$",),
+    "A till was stolen": (r"^revoked 1$[\s\S]*^rights granted 0 withdrawn 1 at [0-9]+$",),
     "The authority is renewed": ("", ""),
     "HAProxy in place of nginx": ("",),
     "Several vaults": (r"^done\ndone$",),

@@ -28,14 +28,14 @@ use Rattle.vault_jobs.specs.declared.task.Outcome.{Outcome}
 use Rattle.vault_jobs.specs.declared.task.Outcome.TheVariants as outcome
 use Rattle.vault_jobs.specs.declared.task.Task.{Task}
 use Rattle.vault_listen.specs.Peers.{vault_passing}
-use Rattle.vault_listen.specs.Live.{Turns}
+use Rattle.vault_jobs.specs.Outside.{Outside}
 use Rattle.vault_recover.specs.Crashed.{Reopens, ReopensEither}
 use Rattle.vault_schema.specs.Holds.{Holds, LeavesEither}
 use Rattle.vault_store.specs.declared.vault.Vault.{Vault}
 use Rattle.vault_verdict.specs.Sizes.{sizes_of}
 use Rattle.vault_verdict.specs.declared.sizes.Sizes.{Sizes}
 use Rattle.vault_app.specs.Files.{EndsOnFile, WorksOn, ending_for}
-use Rattle.vault_app.specs.World.{World}
+use Rattle.vault_app.specs.World.{World, outside_in}
 use Rattle.vault_app.specs.Jobs.{IsChecked, IsMoved}
 use Rattle.vault_app.specs.declared.ending.Ending.TheVariants.{NotOpened}
 
@@ -47,7 +47,7 @@ module _ {D : Type 0} {g : Ghosts D} {T : Type 0} (conn_of : T → Held (FileSto
       (failed t ≡ false)
       × (HasCleanDisk (file_state (conn_of t)) → Holds (file_state (conn_of t)) V × Past t V)
 
-  pub works : (tells : Turns) (Holding : Image → Type 0) (v v' : Vault T) (left : FileStore D g)
+  pub works : (at : Outside) (Holding : Image → Type 0) (v v' : Vault T) (left : FileStore D g)
       (task : Task) (r : Result Outcome Stop) (broken : Bool) (unread unsent : Type 0) (s : Streams)
       → Each Holding (λ image. OpensFrom image (conn_of v.tables)) → (failed v.tables ≡ false)
       × ((V : Content) → Past v.tables V)
@@ -55,10 +55,10 @@ module _ {D : Type 0} {g : Ghosts D} {T : Type 0} (conn_of : T → Held (FileSto
       → (conn : Held (FileStore D g)) → conn ≡ conn_of v'.tables
       → doubt (file_state conn).is_clean ≤ doubt (view left).is_clean
       → (IsClean (view left) → ReopensAs (file_state conn) left)
-      → Does tells task (vault_passing (λ t. HasCleanDisk (file_state (conn_of t))) held
+      → Does at task (vault_passing (λ t. HasCleanDisk (file_state (conn_of t))) held
       (λ t V W. LeavesEither (file_state (conn_of t)) V W) v v') broken r unread unsent s
-      → WorksOn Holding left (λ p b. Does tells task p b r unread unsent s)
-  works tells Holding v v' left task r broken unread unsent s found fresh honest conn same no_less after
+      → WorksOn Holding left (λ p b. Does at task p b r unread unsent s)
+  works at Holding v v' left task r broken unread unsent s found fresh honest conn same no_less after
       does =
       let closed : IsClean (view left) → HasCleanDisk (file_state (conn_of v'.tables)) =
       λ clean. subst (λ h. HasCleanDisk (file_state h)) same (omega (arith, no_less, clean)) in
@@ -81,13 +81,13 @@ module _ {D : Type 0} {g : Ghosts D} {T : Type 0} (conn_of : T → Held (FileSto
               (after clean).either V V (left_by V V kept.1),
             ))
             (λ clean V W torn. (after clean).either V W (left_by V W torn))
-            s tells task broken r unread unsent does;
+            s at task broken r unread unsent does;
       }
 
 module _ {D : Type 0} {g : Ghosts D} (world : World) (path : List ℕ) (unread unsent : Type 0) (s : Streams)
   where
     pub ended : (left : FileStore D g) (task : Task) (r : Result Outcome Stop)
-        → WorksOn (world.holds path) left (λ p b. Does world.tells task p b r unread unsent s)
+        → WorksOn (world.holds path) left (λ p b. Does (outside_in world) task p b r unread unsent s)
         → EndsOnFile world path (Some left) task (ending_for r) unread unsent s
     ended left task (Ok outcome.Done) works = works
     ended left task (Ok (outcome.Refused n)) works = works

@@ -1,5 +1,7 @@
 mod Checked
 mod Files
 mod Lines
+mod FollowedFiles
+mod Looks
 mod Unread
 mod Values

@@ -1,7 +1,7 @@
 -- What a run that ends with words that are bad, a file that isn't opened or a refusal read and wrote.
 use Rattle.std.proofs.Common.{◌≡◌, ◌⊎◌, inl, inr, ℕ, ℤ, List, Bool, Option, Some, None, Result, Ok, Err}
-use Rattle.std.proofs.Common.{arith, refl, sym, subst, true, false, Bor}
-use Rattle.std.specs.Prelude.{unwrap_or, if◌then◌else◌}
+use Rattle.std.proofs.Common.{arith, refl, sym, subst, true, false}
+use Rattle.std.specs.Prelude.{if◌then◌else◌}
 use Rattle.std.specs.Global.{Vec}
 use Rattle.vault_merchants.specs.Listed.{Wanted}
 use Rattle.vault_rights.specs.Named.{Row}
@@ -10,11 +10,12 @@ use Rattle.sqlite_disk.specs.declared.Disk.{Ghosts}
 use Rattle.sqlite_store.specs.declared.store.FileStore.{FileStore}
 use Rattle.vault_file.specs.declared.fault.NotOpened.{NotOpened as FileFault}
 use Rattle.vault_engine.specs.Passing.{Passage}
-use Rattle.vault_listen.specs.Live.{Turns}
+use Rattle.vault_jobs.specs.Outside.{Outside}
 use Rattle.vault_verdict.specs.declared.sizes.Sizes.{Sizes}
 use Rattle.vault_words.specs.declared.jobs.Job.{Job}
 use Rattle.vault_words.specs.declared.jobs.Job.TheVariants.{Trial, Merchant, Merchants, Grant, Withdraw}
-use Rattle.vault_words.specs.declared.jobs.Job.TheVariants.{Rights, Pipe, Batch, Serve, Sweep, List as Listing}
+use Rattle.vault_words.specs.declared.jobs.Job.TheVariants.{Rights, Pipe, Batch, Serve, Sweep}
+use Rattle.vault_words.specs.declared.jobs.Job.TheVariants.{List as Listing}
 use Rattle.vault_words.specs.declared.jobs.Job.TheVariants.{Check, Migrate}
 use Rattle.vault_jobs.specs.Doing.{Works}
 use Rattle.vault_jobs.specs.Doing.{Does as Performs}
@@ -30,10 +31,9 @@ use Rattle.vault_app.specs.Files.{EndsOnFile}
 use Rattle.vault_app.specs.Jobs.{Does, DoesPlan}
 use Rattle.vault_app.specs.Commands.Check.{TellsSizes, beside}
 use Rattle.vault_app.specs.Commands.Migrate.{TellsMoved}
-use Rattle.vault_app.specs.Commands.Serve.{IsServeOf, without_end}
 use Rattle.vault_app.specs.Endings.{LineEnds}
 use Rattle.vault_app.specs.Plans.{IsPlanOf, IsTaskOf}
-use Rattle.vault_app.specs.World.{World}
+use Rattle.vault_app.specs.World.{World, outside_in}
 use Rattle.vault_app.specs.declared.ending.Ending.{Ending}
 use Rattle.vault_app.specs.declared.ending.Ending.TheVariants.{Done, DoneWithLog, Version, Refused}
 use Rattle.vault_app.specs.declared.ending.Ending.TheVariants.{SomeRefused, BadWords, NotOpened, Stopped}
@@ -109,20 +109,15 @@ batch_of world (Rights j) t (given, now, listed, moment, same) rows =
     no_rows false false given now h = h
 batch_of world (Pipe j) t same rows = absurd (subst IsOfRows same rows)
 batch_of world (Batch j) t is rows = (j, refl)
-batch_of world (Serve j) t is rows =
-    absurd (no_rows j.port (unwrap_or j.connections without_end) j.rights is)
-  where
-    no_rows : (port connections : ℕ) (o : Option (Bor (List ℕ))) → ¬ (IsServeOf world port connections o t)
-    no_rows port connections None same = subst IsOfRows same rows
-    no_rows port connections (Some path) (given, now, listed, moment, same) = subst IsOfRows same rows
+batch_of world (Serve j) t (lists, merchants, rights, same) rows = absurd (subst IsOfRows same rows)
 batch_of world (Listing j) t same rows = absurd (subst IsOfRows same rows)
 batch_of world (Sweep j) t (names, (who, now, caller, merchant, moment, same)) rows =
     absurd (subst IsOfRows same rows)
 batch_of world job t is rows = absurd is
 
-module _ (tells : Turns) (unread unsent : Type 0) (s : Streams) where
+module _ (at : Outside) (unread unsent : Type 0) (s : Streams) where
   rows_of : (t : Task) (w : Passage) (broken : Bool)
-      → Works tells t w broken (Ok outcome.SomeRefused) unread unsent s → IsOfRows t
+      → Works at t w broken (Ok outcome.SomeRefused) unread unsent s → IsOfRows t
   rows_of (task.Change c) w broken h = h
   rows_of (task.Give rows now) w broken h = h
   rows_of (task.Settle rows now) w broken (inl (changes, of, h)) = h
@@ -135,13 +130,12 @@ module _ (tells : Turns) (unread unsent : Type 0) (s : Streams) where
   rows_of (task.Sweep who now Clock) w broken (inr (inr (f, is, silent, h))) = absurd (cc is)
   rows_of (task.Batch who now digits) w broken h = tt
   rows_of (task.Pipe now digits) w broken h = h
-  rows_of (task.Serve port connections None) w broken h = h
-  rows_of (task.Serve port connections (Some it)) w broken (inl (none, h)) = h
-  rows_of (task.Serve port connections (Some it)) w broken (inr (changes, of, h)) = h
+  rows_of (task.Serve port connections lists) w broken (inl (some, none, h)) = h
+  rows_of (task.Serve port connections lists) w broken (inr h) = h.1
   rows_of (task.Show it) w broken h = h
 
   unread_by : (t : Task) (w : Passage) (broken : Bool) (n : ℕ)
-      → Performs tells t w broken (Ok (outcome.Refused n)) unread unsent s → unread
+      → Performs at t w broken (Ok (outcome.Refused n)) unread unsent s → unread
   unread_by (task.Batch who now digits) w broken n d = absurd d.works
   unread_by (task.Pipe now digits) w broken n d = absurd d.works
   unread_by t w broken n d = d.begun
@@ -195,7 +189,7 @@ module _ {D : Type 0} {g : Ghosts D} (world : World) (left : Option (FileStore D
   -- where the vault refuses it reads nothing
   file_refused : (path : List ℕ) (left : Option (FileStore D g)) (t : Task) (n : ℕ)
       → EndsOnFile world path left t (Refused n) unread unsent s → unread
-  file_refused path (Some it) t n h = unread_by world.tells unread unsent s t _ h.broken n h.done
+  file_refused path (Some it) t n h = unread_by (outside_in world) unread unsent s t _ h.broken n h.done
   file_refused path None t n h = h.3
 
   plan_refused : (p : Plan) (n : ℕ) → DoesPlan world left p (Refused n) unread unsent s → unread
@@ -217,7 +211,7 @@ module _ {D : Type 0} {g : Ghosts D} (world : World) (left : Option (FileStore D
 
   file_part : (path : List ℕ) (left : Option (FileStore D g)) (t : Task)
       → EndsOnFile world path left t SomeRefused unread unsent s → IsOfRows t
-  file_part path (Some it) t h = rows_of world.tells unread unsent s t _ h.broken h.done.works
+  file_part path (Some it) t h = rows_of (outside_in world) unread unsent s t _ h.broken h.done.works
   file_part path None t h = let is = h.1 in absurd (cc (is))
 
   -- a plan that may be refused in part is a task of rows

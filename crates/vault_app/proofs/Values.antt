@@ -1,5 +1,5 @@
 -- Tasks whose parts are values of their types.
-use Rattle.std.proofs.Common.{◌≡◌, ℕ, List, [], ◌∷◌, All, Some, Bool, true, false, sym, subst}
+use Rattle.std.proofs.Common.{◌≡◌, ℕ, List, [], ◌∷◌, All, Option, Some, None, Bool, true, false, sym, subst}
 use Rattle.std.proofs.lemmas.List.Elements.{All-cons, All-nil}
 use Rattle.std.specs.Prelude.{IfSome, if◌then◌else◌}
 use Rattle.std.specs.Global.{Vec}
@@ -20,6 +20,7 @@ use Rattle.vault_changes.specs.Settings.{HasLives as HasListedLives, wanted_at}
 use Rattle.vault_merchants.specs.Listed.{AreRowsOf, Wanted}
 use Rattle.vault_jobs.specs.Tasks.{IsProper as HasLives}
 use Rattle.vault_jobs.specs.declared.show.Shown.TheVariants.{Changes, Settings}
+use Rattle.vault_jobs.specs.declared.lists.ListFile.{ListFile}
 use Rattle.vault_jobs.specs.declared.task.Task.{Task}
 use Rattle.vault_jobs.specs.declared.task.Task.TheVariants.{Change, Give, Settle, SetMerchants, Sweep, Batch}
 use Rattle.vault_jobs.specs.declared.task.Task.TheVariants.{Pipe, Serve, Show}
@@ -27,7 +28,7 @@ use Rattle.vault_words.specs.declared.commands.rights_file.RightsFileJob.{Rights
 use Rattle.vault_app.specs.Commands.RightsFile.{rights_task}
 use Rattle.vault_app.specs.Merchants.{AreMerchantsOf}
 use Rattle.vault_app.specs.Rights.{IsListed}
-use Rattle.vault_app.specs.Values.{AreValues}
+use Rattle.vault_app.specs.Values.{AreMerchantValues, AreValues}
 
 -- the lives of a proper command are lives
 lives_of : (c : Command) → IsProper c → HasLivesInRange c
@@ -40,6 +41,12 @@ listed_lives now [] proper = All-nil HasListedLives
 listed_lives now (row ∷ rows) proper =
     All-cons HasListedLives row rows (proper.0.1.0, proper.0.1.1) (listed_lives now rows proper.1)
 
+-- and those of a list of a service
+file_lives : (o : Option (ListFile Wanted)) → IfSome o AreMerchantValues
+    → IfSome o (λ it. All HasListedLives it.rows.items)
+file_lives None is = tt
+file_lives (Some it) is = listed_lives it.now it.rows.items is
+
 -- and so are those of a task
 pub has_lives : (t : Task) → AreValues t → HasLives t
 has_lives (Change c) is = lives_of c is.1
@@ -49,7 +56,7 @@ has_lives (SetMerchants rows now) is = listed_lives now rows.items is
 has_lives (Sweep who now giver) is = tt
 has_lives (Batch who now digits) is = tt
 has_lives (Pipe now digits) is = tt
-has_lives (Serve port connections listed) is = tt
+has_lives (Serve port connections lists) is = file_lives lists.merchants is.0
 has_lives (Show it) is = tt
 
 -- the names of a row are names, and its end is a moment
@@ -82,7 +89,7 @@ rows_proper now moment (row ∷ rows) each =
 
 pub listed_proper : (says : List ℕ → Type 0) (now : ℕ) → IsMoment now → (rows : List Row)
     → IsListed says rows → AllProper (grants_at now rows)
-listed_proper says now moment rows (text, document, said, is, proper, list) =
+listed_proper says now moment rows (text, (document, said, is, proper, list)) =
     rows_proper now moment rows (all-contained IsProperRow rows
     (λ row inside. row_proper document proper row ((list.1 row).0 inside)))
 
@@ -114,7 +121,7 @@ members_proper now moment (member key value rest) (row ∷ rows)
 
 pub merchants_proper : (says : List ℕ → Type 0) (now : ℕ) → IsMoment now → (rows : List Wanted)
     → AreMerchantsOf says rows → AllProper (wanted_at now rows)
-merchants_proper says now moment rows (text, said, (document, of, are)) =
+merchants_proper says now moment rows (text, (said, (document, of, are))) =
     members_proper now moment document rows are
 
 -- so the task of a list of merchants has values, whatever the words ask of it

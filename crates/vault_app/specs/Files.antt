@@ -18,8 +18,8 @@ use Rattle.vault_file.specs.declared.fault.NotOpened.{NotOpened as FileFault}
 use Rattle.vault_file.specs.declared.fault.NotOpened.TheVariants as file
 use Rattle.vault_verdict.specs.declared.fault.OpenFault.TheVariants.{Memory}
 use Rattle.vault_engine.specs.Passing.{Passage}
-use Rattle.vault_listen.specs.Live.{Turns}
 use Rattle.vault_jobs.specs.Doing.{Does}
+use Rattle.vault_jobs.specs.Outside.{Outside}
 use Rattle.vault_jobs.specs.Streams.{Streams}
 use Rattle.vault_jobs.specs.declared.stop.Stop.{Stop}
 use Rattle.vault_jobs.specs.declared.task.Outcome.{Outcome}
@@ -28,7 +28,7 @@ use Rattle.vault_jobs.specs.declared.show.Shown.{Shown}
 use Rattle.vault_jobs.specs.declared.task.Task.{Task}
 use Rattle.vault_jobs.specs.declared.task.Task.TheVariants.{Show}
 use Rattle.vault_app.specs.Endings.{EndsSo, no_ending}
-use Rattle.vault_app.specs.World.{World}
+use Rattle.vault_app.specs.World.{World, outside_in}
 use Rattle.vault_app.specs.declared.ending.Ending.{Ending}
 use Rattle.vault_app.specs.declared.ending.Ending.TheVariants.{Done, Refused, SomeRefused, NotOpened}
 use Rattle.vault_app.specs.declared.ending.Ending.TheVariants.{Stopped}
@@ -87,11 +87,11 @@ module _ {D : Type 0} {g : Ghosts D} where
     pub same : Each Holding (λ image. ¬ MayFindNone image → StaysWhole image left)
 
   -- what was done with the vault in files with such bytes, by how a task on it ended
-  abbrev pub DoesOnFile : Turns → (Image → Type 0) → FileStore D g → Task → Ending → Type 0 → Type 0
+  abbrev pub DoesOnFile : Outside → (Image → Type 0) → FileStore D g → Task → Ending → Type 0 → Type 0
       → Streams → Type 0
-  DoesOnFile tells Holding left task ending unread unsent s =
+  DoesOnFile at Holding left task ending unread unsent s =
       let works : Result Outcome Stop → Type 0 =
-      λ result. WorksOn Holding left (λ p broken. Does tells task p broken result unread unsent s) in
+      λ result. WorksOn Holding left (λ p broken. Does at task p broken result unread unsent s) in
       EndsSo (record no_ending {
         done = works (Ok outcome.Done);
         refused = λ n. works (Ok (outcome.Refused n));
@@ -104,6 +104,6 @@ module _ {D : Type 0} {g : Ghosts D} where
   abbrev pub EndsOnFile : World → List ℕ → Option (FileStore D g) → Task → Ending → Type 0 → Type 0 → Streams
       → Type 0
   EndsOnFile world path (Some left) task ending unread unsent s =
-      DoesOnFile world.tells (world.holds path) left task ending unread unsent s
+      DoesOnFile (outside_in world) (world.holds path) left task ending unread unsent s
   EndsOnFile world path None task ending unread unsent s = (why : FileFault) × (ending ≡ NotOpened why)
       × LeavesAlone world path task why × unread × unsent

@@ -17,11 +17,11 @@ use Rattle.vault_verdict.specs.Sizes.{sizes_of}
 use Rattle.vault_verdict.specs.declared.sizes.Sizes.{Sizes}
 use Rattle.vault_words.specs.Why.{HasFewDigits}
 use Rattle.vault_words.specs.declared.jobs.Job.{Job}
-use Rattle.vault_listen.specs.Peers.{Link}
+use Rattle.vault_live.specs.Turns.{Turn}
+use Rattle.vault_live.specs.Told.{Tells}
 use Rattle.vault_wire.specs.Watching.{inner_of, is_stopped}
 use Rattle.vault_wire.specs.declared.watched.Watched.{Watched}
-use Rattle.vault_jobs.specs.Streams.{Known, Streams, streams, with_links}
-use Rattle.vault_jobs.specs.Told.{Tells}
+use Rattle.vault_jobs.specs.Streams.{Known, Streams, streams, with_turns}
 use Rattle.vault_app.specs.Ending.{Says, status_of}
 use Rattle.vault_app.specs.Files.{EndsOnFile}
 use Rattle.vault_app.specs.Plans.{EndsBefore, IsPlanOf, IsProperPlan}
@@ -97,14 +97,14 @@ module _ {D : Type 0} {g : Ghosts D} where
     pub does : Does world left words ending unread unsent s
 
 -- What a run of the program does over its three streams, in this world, which leaves these
--- files: its job reads, answers these connections, and writes up to `told`; and then the run says on the
+-- files: its job reads, has these turns as a service, and writes up to `told`; and then the run says on the
 -- output or the errors how it ended.
 module _ {D R W E : Type 0} {g : Ghosts D} (remaining : R → Known) (contents : W → Known) (said : E → Known)
   where
-    abbrev pub RunsAs : World → Option (FileStore D g) → List Text → ℕ → List (Option Link)
+    abbrev pub RunsAs : World → Option (FileStore D g) → List Text → ℕ → List Turn
         → Watched R → Watched R → Watched W → Watched W → Watched W → Watched E → Watched E → Type 0
-    RunsAs world left words status links i i' o told o' e e' =
+    RunsAs world left words status turns i i' o told o' e e' =
         DoesRun world left words status (i' ≡ i) (told ≡ o)
-        (with_links (streams remaining i i' contents o told) links)
+        (with_turns (streams remaining i i' contents o told) turns)
         (o' ≡ told) (e' ≡ e) (Tells (contents (inner_of told)) (contents (inner_of o')) (is_stopped o'))
         (Tells (said (inner_of e)) (said (inner_of e')) (is_stopped e'))

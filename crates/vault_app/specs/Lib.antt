@@ -3,8 +3,8 @@ pub mod Commands
 pub mod Ending
 pub mod Endings
 pub mod Files
+pub mod Followed
 pub mod Jobs
-pub mod Listed
 pub mod Merchants
 pub mod Plans
 pub mod Rights

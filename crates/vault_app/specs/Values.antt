@@ -1,5 +1,5 @@
 -- Tasks whose parts are values of their types.
-use Rattle.std.specs.Prelude.{◌≡◌, IfSome, None, Some}
+use Rattle.std.specs.Prelude.{◌≡◌, IfSome, None}
 use Rattle.vault_pan.specs.Draw.{IsDrawing}
 use Rattle.vault_core.specs.Name.{IsName}
 use Rattle.vault_core.specs.Named.{caller_of}
@@ -8,6 +8,9 @@ use Rattle.vault_core.specs.Scalar.{IsMoment}
 use Rattle.vault_core.specs.declared.command.Command.{Command}
 use Rattle.vault_changes.specs.Grants.{grants_at}
 use Rattle.vault_changes.specs.Settings.{wanted_at}
+use Rattle.vault_merchants.specs.Listed.{Wanted}
+use Rattle.vault_rights.specs.Named.{Row}
+use Rattle.vault_jobs.specs.declared.lists.ListFile.{ListFile}
 use Rattle.vault_jobs.specs.declared.task.Task.{Task}
 use Rattle.vault_jobs.specs.declared.task.Task.TheVariants.{Change, Give, Settle, SetMerchants, Sweep, Batch}
 use Rattle.vault_jobs.specs.declared.task.Task.TheVariants.{Pipe, Serve, Show}
@@ -15,6 +18,13 @@ use Rattle.vault_jobs.specs.declared.task.Task.TheVariants.{Pipe, Serve, Show}
 -- a command of no caller, which only the words of the program ask for: of a merchant or of a right
 abbrev pub IsOwn : Command → Type 0
 IsOwn c = caller_of c ≡ None
+
+-- the parts of a list of rights, and of merchants, are values of their types
+abbrev pub AreRightValues : ListFile Row → Type 0
+AreRightValues it = IsMoment it.now × AllProper (grants_at it.now it.rows.items)
+
+abbrev pub AreMerchantValues : ListFile Wanted → Type 0
+AreMerchantValues it = AllProper (wanted_at it.now it.rows.items)
 
 -- The parts of a task are values of their types: its names are names, its lives are lives, its moments are
 -- moments and its digits a drawing. Its command is one of the words'.
@@ -27,6 +37,6 @@ AreValues (Sweep who now giver) = IsName who.caller × IsName who.merchant × Is
 AreValues (Batch who now digits) =
     IsName who.caller × IsName who.merchant × IfSome now IsMoment × IfSome digits IsDrawing
 AreValues (Pipe now digits) = IfSome now IsMoment × IfSome digits IsDrawing
-AreValues (Serve port connections None) = Unit {0}
-AreValues (Serve port connections (Some it)) = IsMoment it.now × AllProper (grants_at it.now it.rights.items)
+AreValues (Serve port connections lists) = IfSome lists.merchants AreMerchantValues
+    × IfSome lists.rights AreRightValues
 AreValues (Show it) = Unit {0}

@@ -3,21 +3,26 @@ use Rattle.std.specs.Prelude.{ℕ, Bool, List}
 use Rattle.sqlite_wal.specs.Recovery.{Image}
 use Rattle.vault_file.specs.declared.paths.Paths.{Ghosts}
 use Rattle.vault_listen.specs.Live.{Turns}
+use Rattle.vault_live.specs.Following.{Looks}
+use Rattle.vault_jobs.specs.Outside.{Outside, outside}
 
--- Which moments are told at which turn; and of each path which bytes its files may hold, that nothing is
--- there, that an open of it may fail, which text it may have, and whether its file has a log.
+-- Which moments are told at which turn; and of each path which text its file had at which look of a service,
+-- which bytes its files may hold, that nothing is there, that an open of it may fail, which text it may have,
+-- and whether its file has a log.
 pub record World : Type 1 where
   pub tells : Turns
+  pub looks : List ℕ → Looks
   pub holds : List ℕ → Image → Type 0
   pub lacks : List ℕ → Type 0
   pub refuses : List ℕ → Type 0
   pub says : List ℕ → List ℕ → Type 0
   pub logs : List ℕ → Bool → Type 0
 
-abbrev pub world_of : Turns → (List ℕ → Image → Type 0) → (List ℕ → Type 0) → (List ℕ → Type 0)
-    → (List ℕ → List ℕ → Type 0) → (List ℕ → Bool → Type 0) → World
-world_of tells holds lacks refuses says logs = record {
+abbrev pub world_of : Turns → (List ℕ → Looks) → (List ℕ → Image → Type 0) → (List ℕ → Type 0)
+    → (List ℕ → Type 0) → (List ℕ → List ℕ → Type 0) → (List ℕ → Bool → Type 0) → World
+world_of tells looks holds lacks refuses says logs = record {
   tells = tells;
+  looks = looks;
   holds = holds;
   lacks = lacks;
   refuses = refuses;
@@ -26,14 +31,23 @@ world_of tells holds lacks refuses says logs = record {
 }
 
 -- what is told of the paths of a host
-abbrev pub world_at : {P D : Type 0} → Ghosts P D → Turns → P → World
-world_at g tells paths = world_of tells (g.holds paths) (g.lacks paths) (g.refuses paths) (g.says paths)
-    (g.logs paths)
+abbrev pub world_at : {P D : Type 0} → Ghosts P D → Turns → (List ℕ → Looks) → P → World
+world_at g tells looks paths = world_of tells looks (g.holds paths) (g.lacks paths) (g.refuses paths)
+    (g.says paths) (g.logs paths)
+
+-- what of it is told to a task while it is done
+abbrev pub outside_in : World → Outside
+outside_in world = outside world.tells world.looks
+
+-- no look is told of
+abbrev pub no_looks : List ℕ → Looks
+no_looks path look text = ⊥
 
 -- nothing is told
 abbrev pub untold : World
 untold = record {
   tells = λ turn now. ⊥;
+  looks = no_looks;
   holds = λ path image. ⊥;
   lacks = λ path. ⊥;
   refuses = λ path. ⊥;
@@ -53,6 +67,7 @@ said tells says = record untold { tells = tells; says = says }
 abbrev pub anything : World
 anything = record {
   tells = λ turn now. Unit {0};
+  looks = λ path look text. Unit {0};
   holds = λ path image. Unit {0};
   lacks = λ path. Unit {0};
   refuses = λ path. Unit {0};

@@ -2,6 +2,7 @@
 
 pub(crate) mod batch;
 pub(crate) mod check;
+pub(crate) mod followed;
 pub(crate) mod list;
 pub(crate) mod merchant;
 pub(crate) mod merchants;

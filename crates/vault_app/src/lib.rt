@@ -3,6 +3,7 @@
 
 mod asker;
 mod commands;
+pub mod desk;
 pub mod ending;
 mod line;
 mod on_file;

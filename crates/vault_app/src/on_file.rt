@@ -1,7 +1,8 @@
 //! What is done with the vault in a file.
 ghost use Rattle.std.specs.Prelude.{◌≡◌, ◌++◌, IsTrue, List, Option, Result};
-ghost use Rattle.vault_listen.specs.Peers.{Event, Link, events_of};
-ghost use Rattle.vault_jobs.specs.Streams.{Streams, streams, with_links};
+ghost use Rattle.vault_listen.specs.Peers.{Event};
+ghost use Rattle.vault_live.specs.Turns.{Turn, events_in};
+ghost use Rattle.vault_jobs.specs.Streams.{Streams, streams, with_turns};
 ghost use Rattle.vault_jobs.specs.Tasks.{IsProper};
 ghost use Rattle.vault_app.specs.Files.{EndsOnFile, IsShow, ending_for};
 ghost use Rattle.vault_app.specs.World.{World, world_at};
@@ -17,6 +18,7 @@ use vault_jobs::stop::Stop;
 use vault_jobs::task::{Outcome, Task, do_task};
 use vault_listen::network::Network;
 use vault_listen::time::Timekeeper;
+use vault_live::desk::Desk;
 use vault_recover::options::Cache;
 use vault_verdict::fault::OpenFault;
 use vault_wire::watched::Watched;
@@ -56,12 +58,13 @@ fn only_shows(task: &Task) -> bool
 /// Opens the vault in the file at a path, does a task with it, and closes the files. Where the task only says
 /// what the file holds, one that isn't there isn't made, and one without a byte isn't written: it is refused
 /// by 34, and by 32 where memory is refused while that is looked at.
-pub(crate) fn do_on_file<P: Paths, K: Timekeeper, N: Network, R: Read, W: Write>(
+pub(crate) fn do_on_file<P: Paths, K: Timekeeper, N: Network, D: Desk, R: Read, W: Write>(
     rt: &HostRuntime,
     path: &str,
     paths: P,
     time: &K,
     network: &mut N,
+    desk: &D,
     task: &Task,
     input: &mut Watched<R>,
     output: &mut Watched<W>,
@@ -70,12 +73,12 @@ pub(crate) fn do_on_file<P: Paths, K: Timekeeper, N: Network, R: Read, W: Write>
     requires proper { IsProper task.now }
     // by how it ends: what was done with the vault in the files, or why they weren't opened, and which files
     // are left
-    ensures does { let world : World = world_at P.Paths (K.tells time.now) paths in
+    ensures does { let world : World = world_at P.Paths (K.tells time.now) (D.says desk.now) paths in
         let s : Streams = streams R.remaining input.old input.new W.contents output.old output.new in
-        (links : List (Option Link))
-        × ((log : List Event) → N.tells network.old log → N.tells network.new (log ++ events_of links))
+        (turns : List Turn)
+        × ((log : List Event) → N.tells network.old log → N.tells network.new (log ++ events_in turns))
         × EndsOnFile world path.now result.1 task.now result.0 (input.new ≡ input.old)
-        (output.new ≡ output.old) (with_links s links) }
+        (output.new ≡ output.old) (with_turns s turns) }
 {
     if only_shows(task) {
         match paths.is_empty(rt, path) {
@@ -88,7 +91,7 @@ pub(crate) fn do_on_file<P: Paths, K: Timekeeper, N: Network, R: Read, W: Write>
         Ok(vault) => vault,
         Err((fault, left)) => return (Ending::NotOpened(fault), left),
     };
-    let outcome = do_task(rt, time, network, task, &mut vault, input, output);
+    let outcome = do_task(rt, time, network, desk, task, &mut vault, input, output);
     let left = close(vault.into_tables().into_connection());
     (ending_of(outcome), Some(left))
 }

@@ -1,7 +1,7 @@
 //! What is to be done for a job.
 ghost use Rattle.std.specs.Prelude.{IfOk, MatchResult};
 ghost use Rattle.vault_app.specs.Plans.{EndsBefore, HasLives, IsPlanOf, IsProperPlan};
-ghost use Rattle.vault_app.specs.World.{World, world_at};
+ghost use Rattle.vault_app.specs.World.{World, no_looks, world_at};
 
 use crate::commands::{
     batch, list, merchant, merchants, pipe, rights, rights_file, serve, sweep, trial,
@@ -37,7 +37,7 @@ pub(crate) fn plan_of<'a, P: Paths, K: Timekeeper>(
     // the lives of the job are in range
     requires { HasLives asked.now }
     // Ok is the plan of the job; Err is how the job may end without one
-    ensures planned { let world : World = world_at P.Paths (K.tells time.now) paths.now in
+    ensures planned { let world : World = world_at P.Paths (K.tells time.now) no_looks paths.now in
         MatchResult result (IsPlanOf world asked.now) (EndsBefore world asked.now) }
     // with Ok, the parts of the plan's task are values of their types, or the life of its trial is in range
     ensures proper { IfOk result IsProperPlan }

@@ -2,13 +2,13 @@
 ghost use Rattle.std.specs.Prelude.{◌≡◌, ◌++◌, codes, decimal};
 ghost use Rattle.vault_wire.specs.Watching.{inner_of, is_stopped};
 ghost use Rattle.vault_app.specs.Ending.{Says, not_opened_line, status_of, version_line};
-ghost use Rattle.vault_jobs.specs.Told.{Tells};
+ghost use Rattle.vault_live.specs.Told.{Tells};
 
 use crate::ending::Ending;
 use itoa::Buffer;
 use std::io::Write;
 use vault_file::fault::NotOpened;
-use vault_jobs::told::tell;
+use vault_live::told::tell;
 use vault_schema::version::NEWEST;
 use vault_wire::watched::Watched;
 use vault_words::jobs::VERSION;

@@ -4,15 +4,16 @@ ghost use Rattle.std.specs.Prelude.{string_bytes};
 ghost use Rattle.std.specs.IoError.{error_kind};
 ghost use Rattle.vault_wire.specs.Watching.{inner_of, is_stopped};
 ghost use Rattle.vault_wire.specs.declared.watched.Watched.{Watched};
-ghost use Rattle.vault_listen.specs.Peers.{Event, Link, events_of};
-ghost use Rattle.vault_jobs.specs.Streams.{Streams, streams, with_links};
-ghost use Rattle.vault_jobs.specs.Told.{Tells};
+ghost use Rattle.vault_listen.specs.Peers.{Event};
+ghost use Rattle.vault_live.specs.Turns.{Turn, events_in};
+ghost use Rattle.vault_jobs.specs.Streams.{Streams, streams, with_turns};
+ghost use Rattle.vault_live.specs.Told.{Tells};
 ghost use Rattle.vault_words.specs.Why.{HasFewDigits};
 ghost use Rattle.vault_app.specs.Ending.{bad_words_line, log_line, stop_line};
 ghost use Rattle.vault_app.specs.Jobs.{Does, DoesPlan, RunsAs};
 ghost use Rattle.vault_app.specs.Plans.{EndsPlanless, IsPlanOf, IsProperPlan};
 ghost use Rattle.vault_app.specs.Asked.{AsksFor, IsBatch, IsCheck};
-ghost use Rattle.vault_app.specs.World.{World, world_at};
+ghost use Rattle.vault_app.specs.World.{World, no_looks, world_at};
 
 use crate::commands::check::tell_sizes;
 use crate::commands::migrate::tell_moved;
@@ -30,9 +31,10 @@ use vault_file::fault::NotOpened;
 use vault_file::migrate::migrate_file;
 use vault_file::paths::Paths;
 use vault_jobs::stop::Stop;
-use vault_jobs::told::tell;
 use vault_listen::network::Network;
 use vault_listen::time::Timekeeper;
+use vault_live::desk::Desk;
+use vault_live::told::tell;
 use vault_store::vault::Fault;
 use vault_verdict::fault::OpenFault;
 use vault_wire::watched::Watched;
@@ -48,14 +50,14 @@ fn planned<'a, P: Paths, K: Timekeeper, A: AsStr, W: Write>(
     output: &mut Watched<W>,
 ) -> Result<Plan<'a>, Ending>
     // with Ok, nothing went out, and it is a plan of a job that the words ask for
-    ensures planned { let world : World = world_at P.Paths (K.tells time.now) paths.now in
+    ensures planned { let world : World = world_at P.Paths (K.tells time.now) no_looks paths.now in
         IfOk result (λ plan. (output.new ≡ output.old)
         × AsksFor (map A.text words.now) (λ job. IsPlanOf world job plan)) }
     // with Ok, the parts of the plan's task are values of their types, or the life of its trial is in range
     ensures proper { IfOk result IsProperPlan }
     // with Err, the words' job ends without a plan, the words ask for none, or memory was refused; only help
     // is said
-    ensures planless { let world : World = world_at P.Paths (K.tells time.now) paths.now in
+    ensures planless { let world : World = world_at P.Paths (K.tells time.now) no_looks paths.now in
         IfErr result (λ ending. EndsPlanless world (map A.text words.now) ending (output.new ≡ output.old)) }
 {
     match job(rt.alloc(), words) {
@@ -71,11 +73,12 @@ fn planned<'a, P: Paths, K: Timekeeper, A: AsStr, W: Write>(
 }
 
 /// Carries out a plan over the files at its path.
-fn carry_out<P: Paths, K: Timekeeper, N: Network, R: Read, W: Write>(
+fn carry_out<P: Paths, K: Timekeeper, N: Network, D: Desk, R: Read, W: Write>(
     rt: &HostRuntime,
     paths: P,
     time: &K,
     network: &mut N,
+    desk: &D,
     plan: Plan<'_>,
     input: &mut Watched<R>,
     output: &mut Watched<W>,
@@ -84,12 +87,12 @@ fn carry_out<P: Paths, K: Timekeeper, N: Network, R: Read, W: Write>(
     requires { IsProperPlan plan }
     // by how it ends: what the plan did with the files at its path, which are left, and what was read and
     // sent
-    ensures does { let world : World = world_at P.Paths (K.tells time.now) paths in
+    ensures does { let world : World = world_at P.Paths (K.tells time.now) (D.says desk.now) paths in
         let s : Streams = streams R.remaining input.old input.new W.contents output.old output.new in
-        (links : List (Option Link))
-        × ((log : List Event) → N.tells network.old log → N.tells network.new (log ++ events_of links))
+        (turns : List Turn)
+        × ((log : List Event) → N.tells network.old log → N.tells network.new (log ++ events_in turns))
         × DoesPlan world result.1 plan.entry result.0
-        (input.new ≡ input.old) (output.new ≡ output.old) (with_links s links) }
+        (input.new ≡ input.old) (output.new ≡ output.old) (with_turns s turns) }
 {
     match plan {
         Plan::Trial(trial) => (trial::serve(rt, time, &trial, input, output), None),
@@ -105,30 +108,33 @@ fn carry_out<P: Paths, K: Timekeeper, N: Network, R: Read, W: Write>(
             let (moved, left) = migrate_file(rt, path, paths);
             (tell_moved(moved, output), left)
         }
-        Plan::Do(path, task) => { do_on_file(rt, path, paths, time, network, &task, input, output) }
+        Plan::Do(path, task) => {
+            do_on_file(rt, path, paths, time, network, desk, &task, input, output)
+        }
     }
 }
 
 /// Does what the words ask for.
-fn ended<P: Paths, K: Timekeeper, N: Network, A: AsStr, R: Read, W: Write>(
+fn ended<P: Paths, K: Timekeeper, N: Network, D: Desk, A: AsStr, R: Read, W: Write>(
     rt: &HostRuntime,
     paths: P,
     time: &K,
     network: &mut N,
+    desk: &D,
     words: &[A],
     input: &mut Watched<R>,
     output: &mut Watched<W>,
 ) -> (Ending, Option<FileStore<P::Disk>>)
     // by how it ends: what the words' job did with its files, which are left, and what was read and sent
-    ensures does { let world : World = world_at P.Paths (K.tells time.now) paths in
+    ensures does { let world : World = world_at P.Paths (K.tells time.now) (D.says desk.now) paths in
         let s : Streams = streams R.remaining input.old input.new W.contents output.old output.new in
-        (links : List (Option Link))
-        × ((log : List Event) → N.tells network.old log → N.tells network.new (log ++ events_of links))
+        (turns : List Turn)
+        × ((log : List Event) → N.tells network.old log → N.tells network.new (log ++ events_in turns))
         × Does world result.1 (map A.text words.now) result.0
-        (input.new ≡ input.old) (output.new ≡ output.old) (with_links s links) }
+        (input.new ≡ input.old) (output.new ≡ output.old) (with_turns s turns) }
 {
     match planned(rt, &paths, time, words, output) {
-        Ok(plan) => carry_out(rt, paths, time, network, plan, input, output),
+        Ok(plan) => carry_out(rt, paths, time, network, desk, plan, input, output),
         Err(ending) => (ending, None),
     }
 }
@@ -149,17 +155,18 @@ fn why_bad<A: AsStr>(alloc: Global, words: &[A], ending: &Ending) -> String
 
 /// Reads the words, does their job over the three streams, says how it ended, and answers the exit status and
 /// the files that it leaves. `paths` tells what stands at paths, `time` the moments that the words don't
-/// fix, and on `network` a service listens.
+/// fix; on `network` a service listens, and `desk` reads the list that it follows.
 ///
 /// The first word is the program's name. A line on the output or on the errors goes with each status but 0,
 /// and with that of a check whose file has a log:
 /// `refused n`, `vault: bad words` with lines that say why, `vault: file not opened n` or `n m`,
 /// `vault: stopped n`.
-pub fn run<P: Paths, K: Timekeeper, N: Network, A: AsStr, R: Read, W: Write, E: Write>(
+pub fn run<P: Paths, K: Timekeeper, N: Network, D: Desk, A: AsStr, R: Read, W: Write, E: Write>(
     rt: &HostRuntime,
     paths: P,
     time: &K,
     network: &mut N,
+    desk: &D,
     words: &[A],
     input: &mut Watched<R>,
     output: &mut Watched<W>,
@@ -167,11 +174,11 @@ pub fn run<P: Paths, K: Timekeeper, N: Network, A: AsStr, R: Read, W: Write, E: 
 ) -> (u8, Option<FileStore<P::Disk>>)
     // the run did what the words ask, which gives its status, the files left, what was read and sent, and
     // what it said then
-    ensures does { let world : World = world_at P.Paths (K.tells time.now) paths in
-        (told : Watched W) × (links : List (Option Link))
-        × ((log : List Event) → N.tells network.old log → N.tells network.new (log ++ events_of links))
+    ensures does { let world : World = world_at P.Paths (K.tells time.now) (D.says desk.now) paths in
+        (told : Watched W) × (turns : List Turn)
+        × ((log : List Event) → N.tells network.old log → N.tells network.new (log ++ events_in turns))
         × RunsAs R.remaining W.contents E.contents world result.1
-        (map A.text words.now) result.0 links input.old input.new output.old told output.new errors.old
+        (map A.text words.now) result.0 turns input.old input.new output.old told output.new errors.old
         errors.new }
     // the status is 0, 1, 2, 3 or 4
     ensures status { (result.0 ≡ 0) ⊎ (result.0 ≡ 1) ⊎ (result.0 ≡ 2) ⊎ (result.0 ≡ 3) ⊎ (result.0 ≡ 4) }
@@ -189,7 +196,7 @@ pub fn run<P: Paths, K: Timekeeper, N: Network, A: AsStr, R: Read, W: Write, E: 
     // with status 2 or 3, nothing went out on the output
     ensures unsent { (result.0 ≡ 2) ⊎ (result.0 ≡ 3) → output.new ≡ output.old }
 {
-    let (ending, left) = ended(rt, paths, time, network, words, input, output);
+    let (ending, left) = ended(rt, paths, time, network, desk, words, input, output);
     let why = why_bad(rt.alloc(), words, &ending);
     (report(&ending, why.as_str(), output, errors), left)
 }

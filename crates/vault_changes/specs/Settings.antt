@@ -1,6 +1,5 @@
 -- What makes the merchants of a list those of a vault.
 use Rattle.std.specs.Prelude.{◌≡◌, ◌⊎◌, ℕ, ◌==◌, ◌&&◌, Bool, not, List, filter, map, Err}
-use Rattle.std.specs.Prelude.{Option, Some, None, if◌then◌else◌}
 use Rattle.std.specs.List.{list_any}
 use Rattle.std.specs.Ordering.{eq_by_cmp}
 use Rattle.vault_pan.specs.Mask.{lead_digits}
@@ -41,10 +40,6 @@ missing_merchants rows held = filter (λ row. not (stands_in held row)) rows
 -- the command that sets a merchant at a moment
 abbrev pub setting_at : ℕ → Wanted → Command
 setting_at now row = SetMerchant row.0 row.1 row.2 row.3 now
-
--- the same, unless it is held so
-abbrev pub setting_for : List Named → Wanted → ℕ → Option Command
-setting_for held row now = if stands_in held row then None else Some (setting_at now row)
 
 -- the commands that set the merchants of a list, in its order
 abbrev pub wanted_at : ℕ → List Wanted → List Command

@@ -5,5 +5,7 @@ pub mod carry;
 pub mod change;
 pub mod changes;
 pub mod laws;
+mod merchant_keys;
+mod right_keys;
 pub mod settings;
 pub mod settle;

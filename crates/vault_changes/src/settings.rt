@@ -8,11 +8,11 @@ ghost use Rattle.vault_listen.specs.Peers.{vault_passing};
 ghost use Rattle.vault_changes.specs.Carried.{IsCarriedOut};
 ghost use Rattle.vault_changes.specs.Failing.{BreaksByStore};
 ghost use Rattle.vault_changes.specs.Grants.{CarriesAll};
-ghost use Rattle.vault_changes.specs.Settings.{HasLives, Sets, is_set as is_set_in, setting_for};
-ghost use Rattle.vault_changes.specs.Settings.{settings_at, stands_in};
+ghost use Rattle.vault_changes.specs.Settings.{HasLives, Sets, setting_at, settings_at};
 ghost use Rattle.vault_changes.specs.Settling.{FailsToRead};
 
 use crate::carry::carry_all;
+use crate::merchant_keys::{merchant_keys, stands};
 use crate::settle::AsTheyStand;
 use std::alloc::{AllocError, Global};
 use vault_core::command::Command;
@@ -23,40 +23,16 @@ use vault_store::listing::NamedRow;
 use vault_store::tables::Tables;
 use vault_store::vault::{Fault, Vault};
 
-/// Whether the merchant that is held is the one that the row lists, with its lives and its lead.
-fn is_set(held: &NamedRow, row: &ListedMerchant) -> bool
-    ensures { result ≡ is_set_in held.now row.now }
+/// The command that sets a merchant of a list at a moment.
+fn setting(row: &ListedMerchant, now: Moment) -> Command
+    ensures { result ≡ setting_at now row.now }
 {
-    held.0.cmp(&row.0).is_eq()
-        && held.1.single_life == row.1
-        && held.1.multi_life == row.2
-        && held.1.lead.digits() == row.3.digits()
-}
-
-/// Whether one of those that are held is.
-fn stands(held: &[NamedRow], row: &ListedMerchant) -> bool
-    ensures { result ≡ stands_in held.now row.now }
-{
-    for it in held {
-        if is_set(it, row) {
-            return true;
-        }
-    }
-    false
-}
-
-/// The command that sets a merchant at a moment, unless it is held so.
-fn setting(held: &[NamedRow], row: &ListedMerchant, now: Moment) -> Option<Command>
-    ensures { result ≡ setting_for held.now row.now now }
-{
-    if stands(held, row) {
-        return None;
-    }
-    Some(Command::setting(row.0, Lives::new(row.1, row.2, row.3, now)))
+    Command::setting(row.0, Lives::new(row.1, row.2, row.3, now))
 }
 
 /// Adds the commands that set, at a moment, the merchants of the rows that aren't held so.
 fn push_settings(
+    alloc: Global,
     commands: &mut Vec<Command>,
     rows: &[ListedMerchant],
     held: &[NamedRow],
@@ -64,9 +40,10 @@ fn push_settings(
 ) -> Result<(), AllocError>
     ensures { OnOk result (commands.new.items ≡ commands.old.items ++ settings_at now rows.now held.now) }
 {
+    let keys = merchant_keys(alloc, held)?;
     for row in rows {
-        if let Some(command) = setting(held, row, now) {
-            commands.push(command)?;
+        if !stands(&keys, row) {
+            commands.push(setting(row, now))?;
         }
     }
     Ok(())
@@ -82,7 +59,7 @@ fn settings_of(
     ensures { IfOk result (λ commands. commands.items ≡ settings_at now rows.now held.now) }
 {
     let mut commands = Vec::new(alloc);
-    push_settings(&mut commands, rows, held, now)?;
+    push_settings(alloc, &mut commands, rows, held, now)?;
     Ok(commands)
 }
 

@@ -4,6 +4,7 @@
 use sqlite::Unknown;
 use std::process::ExitCode;
 use std::{env, io};
+use vault_app::desk::HostDesk;
 use vault_app::run::{no_words, run};
 use vault_file::host::HostPaths;
 use vault_listen::network::Loopback;
@@ -24,11 +25,13 @@ fn main(rt: HostRuntime) -> ExitCode {
         Ok(words) => {
             let time = ClockTime::new(&rt);
             let mut network = Loopback::new(&rt, Limits::of_service());
+            let desk = HostDesk::new(&rt);
             run(
                 &rt,
                 HostPaths::new(Unknown),
                 &time,
                 &mut network,
+                &desk,
                 words.as_slice(),
                 &mut input,
                 &mut output,

@@ -1,5 +1,6 @@
 pub mod Breaking
 pub mod Flushing
+pub mod Followed
 pub mod Lines
 pub mod Listed
 pub mod MerchantMoments
@@ -9,6 +10,6 @@ pub mod RefinedPassages
 pub mod RefinedTasks
 pub mod Stops
 pub mod Sweeping
-pub mod Telling
 pub mod Timed
+pub mod TwoParts
 pub mod VaultPassages

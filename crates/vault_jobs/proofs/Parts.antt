@@ -1,34 +1,37 @@
 -- What a task does, by what its parts do.
-use Rattle.std.proofs.Common.{◌≡◌, ℕ, List, [], Bool, true, Option, Some, None, Result, Ok, Err}
+use Rattle.std.proofs.Common.{◌≡◌, ℕ, List, [], Bool, true, Result, Ok, Err}
 use Rattle.std.proofs.Common.{inl, inr, length, ◌++◌}
 use Rattle.std.proofs.Common.{subst, sym}
 use Rattle.std.specs.Prelude.{IfErr}
 use Rattle.vault_engine.specs.Passing.{Passage}
 use Rattle.vault_batch.specs.declared.asker.Asker.{Asker}
 use Rattle.vault_listen.specs.Live.{Turns}
-use Rattle.vault_listen.specs.Peers.{Event, Link, events_of}
+use Rattle.vault_listen.specs.Peers.{Event}
+use Rattle.vault_live.specs.Turns.{Asking, Turn, events_in}
 use Rattle.vault_listen.proofs.ServedConnections.{none_then}
 use Rattle.vault_store.specs.declared.vault.Fault.{Fault}
 use Rattle.vault_jobs.specs.Causes.{IsCause, IsCauseOf}
 use Rattle.vault_changes.specs.Carried.{Carries}
-use Rattle.vault_jobs.specs.Doing.{CommandsEnd, Does, ListEnds, ListedServeEnds, ServeEnds, SetEnds}
+use Rattle.vault_jobs.specs.Doing.{BeginEnds, CommandsEnd, Does, ListedServeEnds, ServeEnds, SetEnds}
 use Rattle.vault_jobs.specs.Doing.{SettleEnds, ShowEnds, SweepEnds, TimedSweepEnds, Works, behind}
 use Rattle.vault_store.specs.declared.vault.Fault.TheVariants as vault
 use Rattle.vault_changes.specs.Grants.{CarriesAll, grants_at}
 use Rattle.std.specs.Global.{Vec}
 use Rattle.vault_merchants.specs.Listed.{Wanted}
 use Rattle.vault_rights.specs.Named.{Row}
-use Rattle.vault_jobs.specs.Tasks.{BreaksBy, FailsStore, HasNoLinks, IsTaskBegun, granted_line}
+use Rattle.vault_jobs.specs.Tasks.{BreaksBy, FailsStore, HasNoTurns, IsTaskBegun, granted_line}
 use Rattle.vault_core.specs.Vault.{Vault as Content}
 use Rattle.vault_jobs.specs.Listing.{shown_text}
 use Rattle.vault_jobs.specs.declared.task.Task.{Task}
 use Rattle.vault_jobs.specs.declared.task.Task.TheVariants.{Change, Give, Settle, SetMerchants, Sweep, Serve}
 use Rattle.vault_jobs.specs.declared.task.Task.TheVariants.{Show}
-use Rattle.vault_jobs.specs.declared.task.Listed.{Listed}
+use Rattle.vault_jobs.specs.declared.lists.Lists.{Lists}
 use Rattle.vault_jobs.specs.declared.clock.Giver.{Giver}
 use Rattle.vault_jobs.specs.declared.clock.Giver.TheVariants.{Words, Clock}
 use Rattle.vault_jobs.specs.declared.show.Shown.{Shown}
 use Rattle.vault_core.specs.declared.command.Command.{Command}
+use Rattle.vault_jobs.specs.Lists.{asked_of, begin_of}
+use Rattle.vault_jobs.specs.Outside.{Outside}
 use Rattle.vault_jobs.specs.Streams.{Known, Streams}
 use Rattle.vault_changes.specs.Carried.{Verdict}
 use Rattle.vault_jobs.specs.declared.stop.Stop.{Stop}
@@ -66,18 +69,18 @@ module _ (unsent : Type 0) (old new : Known) (s : Streams) where
   timed_sweep_caused Clock who now w broken r (inr (inr (f, is, silent, h))) =
       subst (λ e. IfErr e (λ stop. IsCauseOf stop s)) (sym is) tt
 
-  serve_caused : (tells : Turns) (port most : ℕ) (w : Passage) (r : Result Outcome Stop)
-      (xs : List (Option Link)) → ServeEnds tells port most w r unsent old new s.writer xs
+  serve_caused : (tells : Turns) (asks : Asking) (port most : ℕ) (w : Passage) (r : Result Outcome Stop)
+      (ts : List Turn) → ServeEnds tells asks port most w r unsent old new s.writer ts
       → IfErr r (λ stop. IsCauseOf stop s)
-  serve_caused tells port most w (Ok end) xs h = tt
-  serve_caused tells port most w (Err (Vault f)) xs h = tt
-  serve_caused tells port most w (Err (Service f)) xs (same, none, inl (is, silent)) =
+  serve_caused tells asks port most w (Ok end) ts h = tt
+  serve_caused tells asks port most w (Err (Vault f)) ts h = tt
+  serve_caused tells asks port most w (Err (Service f)) ts (same, none, inl (is, silent)) =
       subst (λ e. IsCause e s.reader s.writer) (sym is) tt
-  serve_caused tells port most w (Err (Service f)) xs (same, none, inr (is, failed)) =
+  serve_caused tells asks port most w (Err (Service f)) ts (same, none, inr (is, failed)) =
       subst (λ e. IsCause e s.reader s.writer) (sym is) failed
-  serve_caused tells port most w (Err (Listener f)) xs h = tt
-  serve_caused tells port most w (Err (Rights f)) xs h = absurd h
-  serve_caused tells port most w (Err (stop.Batch f)) xs h = absurd h
+  serve_caused tells asks port most w (Err (Listener f)) ts h = tt
+  serve_caused tells asks port most w (Err (Rights f)) ts h = absurd h
+  serve_caused tells asks port most w (Err (stop.Batch f)) ts h = absurd h
 
   settle_caused : (now : ℕ) (rows : List Row) (w : Passage) (broken : Bool) (r : Result Outcome Stop)
       → SettleEnds now rows w broken r unsent old new s.writer → IfErr r (λ stop. IsCauseOf stop s)
@@ -101,24 +104,22 @@ module _ (unsent : Type 0) (old new : Known) (s : Streams) where
   show_caused text w broken (Err (Rights f)) h = absurd h
   show_caused text w broken (Err (stop.Batch f)) h = absurd h
 
-  list_caused : (now : ℕ) (rows : List Row) (w : Passage) (broken : Bool) (r : Result Outcome Stop)
-      → ListEnds now rows w broken r unsent → IfErr r (λ stop. IsCauseOf stop s)
-  list_caused now rows w broken (Ok end) h = tt
-  list_caused now rows w broken (Err (Vault f)) h = tt
-  list_caused now rows w broken (Err (Service f)) h = absurd h
-  list_caused now rows w broken (Err (Listener f)) h = absurd h
-  list_caused now rows w broken (Err (Rights f)) h = absurd h
-  list_caused now rows w broken (Err (stop.Batch f)) h = absurd h
+  begin_caused : (lists : Lists) (w : Passage) (broken : Bool) (r : Result Outcome Stop)
+      → BeginEnds lists w broken r unsent → IfErr r (λ stop. IsCauseOf stop s)
+  begin_caused lists w broken (Ok end) h = tt
+  begin_caused lists w broken (Err (Vault f)) h = tt
+  begin_caused lists w broken (Err (Service f)) h = absurd h
+  begin_caused lists w broken (Err (Listener f)) h = absurd h
+  begin_caused lists w broken (Err (Rights f)) h = absurd h
+  begin_caused lists w broken (Err (stop.Batch f)) h = absurd h
 
-  listed_caused : (tells : Turns) (port most : ℕ) (listed : Option Listed) (w : Passage) (broken : Bool)
-      (r : Result Outcome Stop) (xs : List (Option Link))
-      → ListedServeEnds tells port most listed w broken r unsent old new s.writer xs
+  listed_caused : (at : Outside) (port most : ℕ) (lists : Lists) (w : Passage) (broken : Bool)
+      (r : Result Outcome Stop) (ts : List Turn)
+      → ListedServeEnds at port most lists w broken r unsent old new s.writer ts
       → IfErr r (λ stop. IsCauseOf stop s)
-  listed_caused tells port most None w broken r xs h = serve_caused tells port most w r xs h
-  listed_caused tells port most (Some it) w broken r xs (inl h) =
-      list_caused it.now it.rights.items w broken r h.1
-  listed_caused tells port most (Some it) w broken r xs (inr (changes, of, h)) =
-      serve_caused tells port most (behind changes.commands.items w) r xs h
+  listed_caused at port most lists w broken r ts (inl h) = begin_caused lists w broken r h.2
+  listed_caused at port most lists w broken r ts (inr h) =
+      serve_caused at.tells (asked_of at lists) port most (behind (begin_of lists) w) r ts h.1
 
 -- a store that fails a read breaks the vault
 show_breaks : (text : Content → List ℕ) (w : Passage) (broken : Bool) (unsent : Type 0) (s : Streams)
@@ -133,23 +134,22 @@ show_breaks text w broken unsent s (Err (Listener f)) h store = absurd h
 show_breaks text w broken unsent s (Err (Rights f)) h store = absurd h
 show_breaks text w broken unsent s (Err (stop.Batch f)) h store = absurd h
 
--- no connection came
-pub unlinked : (tells : List Event → Type 0) (P : List (Option Link) → Type 0) → P []
-    → (links : List (Option Link)) × ((log : List Event) → tells log → tells (log ++ events_of links))
-    × P links
+-- there was no turn
+pub unlinked : (tells : List Event → Type 0) (P : List Turn → Type 0) → P []
+    → (turns : List Turn) × ((log : List Event) → tells log → tells (log ++ events_in turns)) × P turns
 unlinked tells P done = ([], none_then tells, done)
 
-module _ {tells : Turns} {w : Passage} {broken : Bool} {r : Result Outcome Stop} {unread unsent : Type 0}
+module _ {at : Outside} {w : Passage} {broken : Bool} {r : Result Outcome Stop} {unread unsent : Type 0}
     {s : Streams} where
   -- a task by what it does
-  pub task_done : {task : Task} → Works tells task w broken r unread unsent s → IsTaskBegun task unread
-      → HasNoLinks task s → IfErr r (λ stop. IsCauseOf stop s) → BreaksBy task r broken
-      → Does tells task w broken r unread unsent s
+  pub task_done : {task : Task} → Works at task w broken r unread unsent s → IsTaskBegun task unread
+      → HasNoTurns task s → IfErr r (λ stop. IsCauseOf stop s) → BreaksBy task r broken
+      → Does at task w broken r unread unsent s
   task_done h calm none caused breaks =
       record { works = h; begun = calm; alone = none; caused = caused; breaks = breaks }
 
-  pub change_done : (c : Command) → unread → s.links ≡ [] → (broken ≡ true → FailsStore r)
-      → Works tells (Change c) w broken r unread unsent s → Does tells (Change c) w broken r unread unsent s
+  pub change_done : (c : Command) → unread → s.turns ≡ [] → (broken ≡ true → FailsStore r)
+      → Works at (Change c) w broken r unread unsent s → Does at (Change c) w broken r unread unsent s
   change_done c calm none breaks h = record {
     works = h;
     begun = calm;
@@ -158,17 +158,18 @@ module _ {tells : Turns} {w : Passage} {broken : Bool} {r : Result Outcome Stop}
     breaks = (breaks, λ _. inr tt);
   }
 
-  pub give_done : (rows : Vec Row) (now at : ℕ) (listed : List Row) → listed ≡ rows.items → at ≡ now → unread
-      → s.links ≡ [] → (broken ≡ true → FailsStore r)
-      → CommandsEnd (CarriesAll (grants_at at listed) w broken) (granted_line (length listed)) r unsent
+  pub give_done : (rows : Vec Row) (now then : ℕ) (listed : List Row) → listed ≡ rows.items → then ≡ now
+      → unread
+      → s.turns ≡ [] → (broken ≡ true → FailsStore r)
+      → CommandsEnd (CarriesAll (grants_at then listed) w broken) (granted_line (length listed)) r unsent
       s.sent_old s.sent_new s.writer
-      → Does tells (Give rows now) w broken r unread unsent s
-  give_done rows now at listed same then calm none breaks h =
-      let works : Works tells (Give rows now) w broken r unread unsent s =
+      → Does at (Give rows now) w broken r unread unsent s
+  give_done rows now then listed same is calm none breaks h =
+      let works : Works at (Give rows now) w broken r unread unsent s =
       subst (λ xs. CommandsEnd (CarriesAll (grants_at now xs) w broken) (granted_line (length xs)) r unsent
       s.sent_old s.sent_new s.writer) same
       (subst (λ n. CommandsEnd (CarriesAll (grants_at n listed) w broken) (granted_line (length listed)) r
-      unsent s.sent_old s.sent_new s.writer) then h) in
+      unsent s.sent_old s.sent_new s.writer) is h) in
       record {
         works = works;
         begun = calm;
@@ -178,9 +179,9 @@ module _ {tells : Turns} {w : Passage} {broken : Bool} {r : Result Outcome Stop}
         breaks = (breaks, λ _. inr tt);
       }
 
-  pub sweep_done : (who : Asker) (now : ℕ) (giver : Giver) → unread → s.links ≡ []
-      → (broken ≡ true → FailsStore r) → Works tells (Sweep who now giver) w broken r unread unsent s
-      → Does tells (Sweep who now giver) w broken r unread unsent s
+  pub sweep_done : (who : Asker) (now : ℕ) (giver : Giver) → unread → s.turns ≡ []
+      → (broken ≡ true → FailsStore r) → Works at (Sweep who now giver) w broken r unread unsent s
+      → Does at (Sweep who now giver) w broken r unread unsent s
   sweep_done who now giver calm none breaks h = record {
     works = h;
     begun = calm;
@@ -189,24 +190,24 @@ module _ {tells : Turns} {w : Passage} {broken : Bool} {r : Result Outcome Stop}
     breaks = (breaks, λ _. inr tt);
   }
 
-  pub serve_done : (port most : ℕ) (listed : Option Listed) → unread
-      → BreaksBy (Serve port most listed) r broken
-      → Works tells (Serve port most listed) w broken r unread unsent s
-      → Does tells (Serve port most listed) w broken r unread unsent s
-  serve_done port most listed calm breaks h = record {
+  pub serve_done : (port most : ℕ) (lists : Lists) → unread
+      → BreaksBy (Serve port most lists) r broken
+      → Works at (Serve port most lists) w broken r unread unsent s
+      → Does at (Serve port most lists) w broken r unread unsent s
+  serve_done port most lists calm breaks h = record {
     works = h;
     begun = calm;
     alone = tt;
-    caused = listed_caused unsent s.sent_old s.sent_new s tells port most listed w broken r s.links h;
+    caused = listed_caused unsent s.sent_old s.sent_new s at port most lists w broken r s.turns h;
     breaks = breaks;
   }
 
   pub settle_done : (rows : Vec Row) (now : ℕ) (listed : List Row) → listed ≡ rows.items → unread
-      → s.links ≡ [] → (broken ≡ true → FailsStore r)
+      → s.turns ≡ [] → (broken ≡ true → FailsStore r)
       → SettleEnds now listed w broken r unsent s.sent_old s.sent_new s.writer
-      → Does tells (Settle rows now) w broken r unread unsent s
+      → Does at (Settle rows now) w broken r unread unsent s
   settle_done rows now listed same calm none breaks h =
-      let works : Works tells (Settle rows now) w broken r unread unsent s =
+      let works : Works at (Settle rows now) w broken r unread unsent s =
       subst (λ xs. SettleEnds now xs w broken r unsent s.sent_old s.sent_new s.writer) same h in
       record {
         works = works;
@@ -217,11 +218,11 @@ module _ {tells : Turns} {w : Passage} {broken : Bool} {r : Result Outcome Stop}
       }
 
   pub set_done : (rows : Vec Wanted) (now : ℕ) (listed : List Wanted) → listed ≡ rows.items → unread
-      → s.links ≡ [] → (broken ≡ true → FailsStore r)
+      → s.turns ≡ [] → (broken ≡ true → FailsStore r)
       → SetEnds now listed w broken r unsent s.sent_old s.sent_new s.writer
-      → Does tells (SetMerchants rows now) w broken r unread unsent s
+      → Does at (SetMerchants rows now) w broken r unread unsent s
   set_done rows now listed same calm none breaks h =
-      let works : Works tells (SetMerchants rows now) w broken r unread unsent s =
+      let works : Works at (SetMerchants rows now) w broken r unread unsent s =
       subst (λ xs. SetEnds now xs w broken r unsent s.sent_old s.sent_new s.writer) same h in
       record {
         works = works;
@@ -231,9 +232,9 @@ module _ {tells : Turns} {w : Passage} {broken : Bool} {r : Result Outcome Stop}
         breaks = (breaks, λ _. inr tt);
       }
 
-  pub show_done : (it : Shown) → unread → s.links ≡ [] → (broken ≡ true → FailsStore r)
-      → Works tells (Show it) w broken r unread unsent s
-      → Does tells (Show it) w broken r unread unsent s
+  pub show_done : (it : Shown) → unread → s.turns ≡ [] → (broken ≡ true → FailsStore r)
+      → Works at (Show it) w broken r unread unsent s
+      → Does at (Show it) w broken r unread unsent s
   show_done it calm none breaks h = record {
     works = h;
     begun = calm;

@@ -1,6 +1,6 @@
 -- What a task does in one passage it does in any that refines it: where what was before and what is kept is
 -- said of other things, as of files in place of tables.
-use Rattle.std.proofs.Common.{ℕ, List, [], Bool, Option, Result, Ok, Err, inl, inr}
+use Rattle.std.proofs.Common.{ℕ, List, [], Bool, Result, Ok, Err, inl, inr}
 use Rattle.vault_core.specs.Vault.{Vault as Content}
 use Rattle.vault_core.specs.declared.command.Command.{Command}
 use Rattle.vault_wire.specs.Parts.{Parts}
@@ -20,8 +20,8 @@ use Rattle.vault_batch.specs.declared.counts.Counts.{Counts}
 use Rattle.vault_batch.specs.declared.fault.BatchFault.{BatchFault}
 use Rattle.vault_batch.specs.declared.fault.BatchFault.TheVariants as row
 use Rattle.vault_listen.specs.Live.{Turns}
-use Rattle.vault_listen.specs.Peers.{Link}
-use Rattle.vault_listen.specs.Service.{AllKept, Leaves}
+use Rattle.vault_live.specs.Turns.{AllKept, Asking, Leaves, OneUndecided, Turn}
+use Rattle.vault_live.specs.Turns.Turn.{Lost, Served as Linked, Attended}
 use Rattle.vault_listen.specs.declared.fault.ListenFault.{ListenFault}
 use Rattle.vault_listen.specs.declared.fault.ListenFault.TheVariants as listen
 use Rattle.vault_merchants.specs.Listed.{Wanted}
@@ -32,8 +32,10 @@ use Rattle.vault_jobs.specs.Batched.{StopsBatch}
 use Rattle.vault_changes.specs.Carried.{Carries}
 use Rattle.vault_changes.proofs.Refining.{carries_all, over}
 use Rattle.vault_changes.specs.Settling.{FailsToRead, IsUntouched}
-use Rattle.vault_jobs.specs.Doing.{CommandsEnd, ListEnds}
-use Rattle.vault_changes.specs.Settling.{Settles}
+use Rattle.vault_jobs.specs.Beginning.{CarriesOut, CarriesTo}
+use Rattle.vault_jobs.specs.Doing.{BeginEnds, CommandsEnd}
+use Rattle.vault_jobs.specs.Lists.{begin_of}
+use Rattle.vault_jobs.specs.declared.lists.Lists.{Lists}
 use Rattle.vault_jobs.specs.Doing.{ServeEnds, SetEnds, SettleEnds, ShowEnds}
 use Rattle.vault_jobs.specs.Doing.{SweepEnds, TimedSweepEnds}
 use Rattle.vault_jobs.specs.Piped.{IsPiped, StopsPiping}
@@ -87,26 +89,27 @@ module _ (H : Type 0) (O N : Content → Type 0) (L : Content → Content → Ty
   )
   sweeps who now broken (Err Reopen) h = absurd h
 
-  all_kept : (tells : Turns) (xs : List (Option Link)) → AllKept tells xs w
-      → AllKept tells xs (over H O N L w)
-  all_kept tells xs h = λ V b. let it = h V (was V b.0 b.1) in (it.0, it.1, kept b.0 _ it.2)
+  all_kept : (tells : Turns) (asks : Asking) (ts : List Turn) → AllKept tells asks ts w
+      → AllKept tells asks ts (over H O N L w)
+  all_kept tells asks ts h = λ V b. let it = h V (was V b.0 b.1) in (it.0, it.1, kept b.0 _ it.2)
 
-  leaves : (tells : Turns) (n : ℕ) (xs : List (Option Link)) (f : ListenFault) → Leaves tells n xs w (Err f)
-      → Leaves tells n xs (over H O N L w) (Err f)
-  leaves tells n xs listen.Source (some, few, on, h) = (some, few, on, all_kept tells xs h)
-  leaves tells n xs listen.Store (few, (first, last, are, on, failed, h)) = (
-    few,
-    (
-      first,
-      last,
-      are,
-      on,
-      failed,
-      λ V b. let it = h V (was V b.0 b.1) in (it.0, it.1, it.2, it.3, it.4, torn b.0 _ _ it.5),
-    ),
+  one_undecided : (tells : Turns) (asks : Asking) (first : List Turn) (last : Turn)
+      → OneUndecided tells asks first last w → OneUndecided tells asks first last (over H O N L w)
+  one_undecided tells asks first Lost h = h
+  one_undecided tells asks first (Linked x) (failed, h) =
+      (failed, λ V b. let it = h V (was V b.0 b.1) in (it.0, it.1, it.2, it.3, it.4, torn b.0 _ _ it.5))
+  one_undecided tells asks first (Attended cs news) (calm, (next, few, h)) = (
+    calm,
+    (next, few, λ V b. let it = h V (was V b.0 b.1) in (it.0, it.1, it.2, torn b.0 _ _ it.3)),
   )
-  leaves tells n xs listen.Memory (none, h) = (none, all_kept tells [] h)
-  leaves tells n xs listen.Accept (few, on, h) = (few, on, all_kept tells xs h)
+
+  leaves : (tells : Turns) (asks : Asking) (n : ℕ) (ts : List Turn) (f : ListenFault)
+      → Leaves tells asks n ts w (Err f) → Leaves tells asks n ts (over H O N L w) (Err f)
+  leaves tells asks n ts listen.Source (few, h) = (few, all_kept tells asks ts h)
+  leaves tells asks n ts listen.Store (few, (first, last, are, h)) =
+      (few, (first, last, are, one_undecided tells asks first last h))
+  leaves tells asks n ts listen.Memory (few, (none, h)) = (few, (none, all_kept tells asks [] h))
+  leaves tells asks n ts listen.Accept (few, h) = (few, all_kept tells asks ts h)
 
   answered : {X : Type 0} (k : Kind X) (first : List ℕ) (xs : List (Asked X)) → Answered k first w xs
       → Answered k first (over H O N L w) xs
@@ -305,22 +308,23 @@ module _ (H : Type 0) (O N : Content → Type 0) (L : Content → Content → Ty
   stops_batch left who e (inl s) = inl (batch_stops left who e s)
   stops_batch left who e (inr (is, (counts, s))) = inr (is, (counts, batched left who counts s))
 
-  pub serve_ends : (tells : Turns) (port n : ℕ) (r : Result Outcome Stop) (unsent : Type 0) (old new : Known)
-      (writer : Bool) (xs : List (Option Link)) → ServeEnds tells port n w r unsent old new writer xs
-      → ServeEnds tells port n (over H O N L w) r unsent old new writer xs
-  serve_ends tells port n (Ok outcome.Done) unsent old new writer xs (calm, told, (all, on, h)) =
-      (calm, told, (all, on, all_kept tells xs h))
-  serve_ends tells port n (Ok (outcome.Refused k)) unsent old new writer xs a = a
-  serve_ends tells port n (Ok outcome.SomeRefused) unsent old new writer xs a = a
-  serve_ends tells port n (Err (Vault f)) unsent old new writer xs a = a
-  serve_ends tells port n (Err (Service f)) unsent old new writer xs (same, none, why) =
+  pub serve_ends : (tells : Turns) (asks : Asking) (port n : ℕ) (r : Result Outcome Stop) (unsent : Type 0)
+      (old new : Known) (writer : Bool) (ts : List Turn)
+      → ServeEnds tells asks port n w r unsent old new writer ts
+      → ServeEnds tells asks port n (over H O N L w) r unsent old new writer ts
+  serve_ends tells asks port n (Ok outcome.Done) unsent old new writer ts (told, (all, h)) =
+      (told, (all, all_kept tells asks ts h))
+  serve_ends tells asks port n (Ok (outcome.Refused k)) unsent old new writer ts a = a
+  serve_ends tells asks port n (Ok outcome.SomeRefused) unsent old new writer ts a = a
+  serve_ends tells asks port n (Err (Vault f)) unsent old new writer ts a = a
+  serve_ends tells asks port n (Err (Service f)) unsent old new writer ts (same, none, why) =
       (untouched same, none, why)
-  serve_ends tells port n (Err (Listener f)) unsent old new writer xs (inl (is, silent, same, none)) =
+  serve_ends tells asks port n (Err (Listener f)) unsent old new writer ts (inl (is, silent, same, none)) =
       inl (is, silent, untouched same, none)
-  serve_ends tells port n (Err (Listener f)) unsent old new writer xs (inr (told, a)) =
-      inr (told, leaves tells n xs f a)
-  serve_ends tells port n (Err (Rights f)) unsent old new writer xs a = a
-  serve_ends tells port n (Err (stop.Batch f)) unsent old new writer xs a = a
+  serve_ends tells asks port n (Err (Listener f)) unsent old new writer ts (inr (told, a)) =
+      inr (told, leaves tells asks n ts f a)
+  serve_ends tells asks port n (Err (Rights f)) unsent old new writer ts a = a
+  serve_ends tells asks port n (Err (stop.Batch f)) unsent old new writer ts a = a
 
   pub commands_end : (P Q : Result Verdict Fault → Type 0) → ((r : Result Verdict Fault) → P r → Q r)
       → (line : List ℕ) (r : Result Outcome Stop) (unsent : Type 0) (old new : Known) (writer : Bool)
@@ -341,18 +345,14 @@ module _ (H : Type 0) (O N : Content → Type 0) (L : Content → Content → Ty
   fails_to_read broken Store (is, h) = (is, λ V b. torn b.0 V V (h V (was V b.0 b.1)))
   fails_to_read broken Reopen h = h
 
-  settles : (now : ℕ) (rows : List Row) (broken : Bool) (r : Result Verdict Fault)
-      → Settles now rows w broken r → Settles now rows (over H O N L w) broken r
-  settles now rows broken r (changes, of, h) =
-      (changes, λ V b. of V (was V b.0 b.1), carries_all H O N L w was kept torn changes.commands.items broken r h)
-
   pub settle_ends : (now : ℕ) (rows : List Row) (broken : Bool) (r : Result Outcome Stop) (unsent : Type 0)
       (old new : Known) (writer : Bool) → SettleEnds now rows w broken r unsent old new writer
       → SettleEnds now rows (over H O N L w) broken r unsent old new writer
   settle_ends now rows broken r unsent old new writer (inl (changes, of, h)) = inl (
     changes,
     λ V b. of V (was V b.0 b.1),
-    commands_end _ _ (carries_all H O N L w was kept torn changes.commands.items broken) _ r unsent old new writer h,
+    commands_end _ _ (carries_all H O N L w was kept torn changes.commands.items broken) _ r unsent old new
+        writer h,
   )
   settle_ends now rows broken r unsent old new writer (inr (f, is, silent, h)) =
       inr (f, is, silent, fails_to_read broken f h)
@@ -383,19 +383,34 @@ module _ (H : Type 0) (O N : Content → Type 0) (L : Content → Content → Ty
   show_ends text broken (Err (Rights f)) unsent old new writer h = h
   show_ends text broken (Err (stop.Batch f)) unsent old new writer h = h
 
-  pub list_ends : (now : ℕ) (rows : List Row) (broken : Bool) (r : Result Outcome Stop) (unsent : Type 0)
-      → ListEnds now rows w broken r unsent → ListEnds now rows (over H O N L w) broken r unsent
-  list_ends now rows broken (Ok outcome.Done) unsent h = h
-  list_ends now rows broken (Ok (outcome.Refused n)) unsent (silent, h) =
-      (silent, settles now rows broken (Ok (Err n)) h)
-  list_ends now rows broken (Ok outcome.SomeRefused) unsent h = h
-  list_ends now rows broken (Err (Vault f)) unsent (silent, inl h) =
-      (silent, inl (settles now rows broken (Err f) h))
-  list_ends now rows broken (Err (Vault f)) unsent (silent, inr h) = (silent, inr (fails_to_read broken f h))
-  list_ends now rows broken (Err (Service f)) unsent h = h
-  list_ends now rows broken (Err (Listener f)) unsent h = h
-  list_ends now rows broken (Err (Rights f)) unsent h = h
-  list_ends now rows broken (Err (stop.Batch f)) unsent h = h
+  carries_to : (cs : List Command) (V : Content) (broken : Bool) (r : Result Verdict Fault) → H
+      → CarriesTo cs V w broken r → CarriesTo cs V (over H O N L w) broken r
+  carries_to cs V broken (Ok (Ok done)) honest h = (h.0, kept honest _ h.1)
+  carries_to cs V broken (Ok (Err n)) honest (k, below, replied, it) =
+      (k, below, replied, kept honest _ it)
+  carries_to cs V broken (Err Memory) honest (k, few, done, it) = (k, few, done, kept honest _ it)
+  carries_to cs V broken (Err Store) honest (k, few, is, done, inl it) =
+      (k, few, is, done, inl (torn honest _ _ it))
+  carries_to cs V broken (Err Store) honest (k, few, is, done, inr (below, it)) =
+      (k, few, is, done, inr (below, torn honest _ _ it))
+  carries_to cs V broken (Err Reopen) honest h = h
+
+  pub carries_out : (wants : Content → List Command) (broken : Bool) (r : Result Verdict Fault)
+      → CarriesOut wants w broken r → CarriesOut wants (over H O N L w) broken r
+  carries_out wants broken r h = λ V b. carries_to (wants V) V broken r b.0 (h V (was V b.0 b.1))
+
+  pub begin_ends : (lists : Lists) (broken : Bool) (r : Result Outcome Stop) (unsent : Type 0)
+      → BeginEnds lists w broken r unsent → BeginEnds lists (over H O N L w) broken r unsent
+  begin_ends lists broken (Ok outcome.Done) unsent h = h
+  begin_ends lists broken (Ok (outcome.Refused n)) unsent (silent, h) =
+      (silent, carries_out (begin_of lists) broken (Ok (Err n)) h)
+  begin_ends lists broken (Ok outcome.SomeRefused) unsent h = h
+  begin_ends lists broken (Err (Vault f)) unsent (silent, h) =
+      (silent, carries_out (begin_of lists) broken (Err f) h)
+  begin_ends lists broken (Err (Service f)) unsent h = h
+  begin_ends lists broken (Err (Listener f)) unsent h = h
+  begin_ends lists broken (Err (Rights f)) unsent h = h
+  begin_ends lists broken (Err (stop.Batch f)) unsent h = h
 
   pub sweep_ends : (who : Asker) (now : ℕ) (broken : Bool) (r : Result Outcome Stop) (unsent : Type 0)
       (old new : Known) (writer : Bool) → SweepEnds who now w broken r unsent old new writer

@@ -1,16 +1,18 @@
 -- A whole task in one passage, and in any that refines it.
-use Rattle.std.proofs.Common.{◌≡◌, ℕ, List, Bool, Option, Some, None, Result, Ok, Err, inl, inr}
+use Rattle.std.proofs.Common.{◌≡◌, ℕ, List, Bool, Option, Result, Ok, Err, inl, inr}
 use Rattle.vault_core.specs.Vault.{Vault as Content}
 use Rattle.vault_engine.specs.Passing.{IsBefore, Keeps, Passage}
 use Rattle.vault_batch.specs.declared.asker.Asker.{Asker}
 use Rattle.vault_listen.specs.Live.{Turns}
-use Rattle.vault_listen.specs.Peers.{Link}
+use Rattle.vault_live.specs.Turns.{Turn}
 use Rattle.vault_core.specs.Runs.{run}
 use Rattle.vault_jobs.specs.Doing.{BatchEnds, Does}
 use Rattle.vault_jobs.specs.Doing.{ListedServeEnds, PipeEnds}
 use Rattle.vault_jobs.specs.Doing.{Works, behind}
 use Rattle.vault_jobs.specs.Listing.{shown_text}
 use Rattle.vault_changes.specs.Grants.{grants_at}
+use Rattle.vault_jobs.specs.Lists.{asked_of, begin_of}
+use Rattle.vault_jobs.specs.Outside.{Outside}
 use Rattle.vault_jobs.specs.Streams.{Known, Streams}
 use Rattle.vault_jobs.specs.declared.stop.Stop.{Stop}
 use Rattle.vault_jobs.specs.declared.stop.Stop.TheVariants.{Vault, Service, Listener, Rights}
@@ -20,9 +22,9 @@ use Rattle.vault_jobs.specs.declared.task.Outcome.TheVariants as outcome
 use Rattle.vault_jobs.specs.declared.task.Task.{Task}
 use Rattle.vault_jobs.specs.declared.task.Task.TheVariants.{Change, Give, Settle, SetMerchants, Sweep, Batch}
 use Rattle.vault_jobs.specs.declared.task.Task.TheVariants.{Pipe, Serve, Show}
-use Rattle.vault_jobs.specs.declared.task.Listed.{Listed}
+use Rattle.vault_jobs.specs.declared.lists.Lists.{Lists}
 use Rattle.vault_changes.proofs.Refining.{carries_all, over}
-use Rattle.vault_jobs.proofs.RefinedPassages.{batched, carries, commands_end, list_ends}
+use Rattle.vault_jobs.proofs.RefinedPassages.{batched, begin_ends, carries, commands_end}
 use Rattle.vault_jobs.proofs.RefinedPassages.{piped, serve_ends}
 use Rattle.vault_jobs.proofs.RefinedPassages.{set_ends, settle_ends, show_ends, stops_batch, stops_piping}
 use Rattle.vault_jobs.proofs.RefinedPassages.{timed_sweep_ends, untouched}
@@ -31,24 +33,21 @@ module _ (H : Type 0) (O N : Content → Type 0) (L : Content → Content → Ty
     (was : (V : Content) → H → O V → IsBefore w V)
     (kept : H → (V : Content) → Keeps w V → N V × L V V)
     (torn : H → (V W : Content) → w.left_new V W → L V W) (s : Streams) where
-  -- a service that may begin with a list
-  listed_serve_ends : (tells : Turns) (port n : ℕ) (listed : Option Listed) (broken : Bool)
-      (r : Result Outcome Stop) (unsent : Type 0) (old new : Known) (writer : Bool) (xs : List (Option Link))
-      → ListedServeEnds tells port n listed w broken r unsent old new writer xs
-      → ListedServeEnds tells port n listed (over H O N L w) broken r unsent old new writer xs
-  listed_serve_ends tells port n None broken r unsent old new writer xs h =
-      serve_ends H O N L w was kept torn tells port n r unsent old new writer xs h
-  listed_serve_ends tells port n (Some it) broken r unsent old new writer xs (inl (none, h)) =
-      inl (none, list_ends H O N L w was kept torn it.now it.rights.items broken r unsent h)
-  listed_serve_ends tells port n (Some it) broken r unsent old new writer xs (inr (changes, of, h)) =
-      let cs = changes.commands.items in
-      inr (
-        changes,
-        λ V b. of V (was V b.0 b.1),
-        serve_ends H (λ U. (V : Content) × O V × (U ≡ run cs V)) N L (behind cs w)
-            (λ U honest (V, held, is). let b = was V honest held in (b.0, (V, b.1, is)))
-            kept torn tells port n r unsent old new writer xs h,
-      )
+  -- a service that may follow lists
+  listed_serve_ends : (at : Outside) (port n : ℕ) (lists : Lists) (broken : Bool)
+      (r : Result Outcome Stop) (unsent : Type 0) (old new : Known) (writer : Bool) (ts : List Turn)
+      → ListedServeEnds at port n lists w broken r unsent old new writer ts
+      → ListedServeEnds at port n lists (over H O N L w) broken r unsent old new writer ts
+  listed_serve_ends at port n lists broken r unsent old new writer ts (inl (some, none, h)) =
+      inl (some, none, begin_ends H O N L w was kept torn lists broken r unsent h)
+  listed_serve_ends at port n lists broken r unsent old new writer ts (inr (of, h, unfailed)) = inr (
+    λ V b. of V (was V b.0 b.1),
+    serve_ends H (λ U. (V : Content) × O V × (U ≡ run (begin_of lists V) V)) N L
+        (behind (begin_of lists) w)
+        (λ U honest (V, held, is). let b = was V honest held in (b.0, (V, b.1, is)))
+        kept torn at.tells (asked_of at lists) port n r unsent old new writer ts h,
+    unfailed,
+  )
 
   batch_ends : (tells : Turns) (who : Asker) (now : Option ℕ) (digits : Option (List ℕ))
       (r : Result Outcome Stop)
@@ -86,33 +85,33 @@ module _ (H : Type 0) (O N : Content → Type 0) (L : Content → Content → Ty
   pipe_ends tells now digits (Err (Rights f)) unread unsent h = h
   pipe_ends tells now digits (Err (stop.Batch f)) unread unsent h = h
 
-  works : (tells : Turns) (task : Task) (broken : Bool) (r : Result Outcome Stop) (unread unsent : Type 0)
-      → Works tells task w broken r unread unsent s
-      → Works tells task (over H O N L w) broken r unread unsent s
-  works tells (Change c) broken r unread unsent h =
+  works : (at : Outside) (task : Task) (broken : Bool) (r : Result Outcome Stop) (unread unsent : Type 0)
+      → Works at task w broken r unread unsent s
+      → Works at task (over H O N L w) broken r unread unsent s
+  works at (Change c) broken r unread unsent h =
       commands_end H O N L w was kept torn _ _ (carries H O N L w was kept torn c broken) _ r unsent _ _ _ h
-  works tells (Give rows now) broken r unread unsent h =
+  works at (Give rows now) broken r unread unsent h =
       commands_end H O N L w was kept torn _ _
       (carries_all H O N L w was kept torn (grants_at now rows.items) broken) _ r unsent _ _ _ h
-  works tells (Settle rows now) broken r unread unsent h =
+  works at (Settle rows now) broken r unread unsent h =
       settle_ends H O N L w was kept torn now rows.items broken r unsent _ _ _ h
-  works tells (SetMerchants rows now) broken r unread unsent h =
+  works at (SetMerchants rows now) broken r unread unsent h =
       set_ends H O N L w was kept torn now rows.items broken r unsent _ _ _ h
-  works tells (Sweep who now giver) broken r unread unsent h =
+  works at (Sweep who now giver) broken r unread unsent h =
       timed_sweep_ends H O N L w was kept torn giver who now broken r unsent _ _ _ h
-  works tells (Batch who now digits) broken r unread unsent h =
-      batch_ends tells who now digits r unread unsent h
-  works tells (Pipe now digits) broken r unread unsent h = pipe_ends tells now digits r unread unsent h
-  works tells (Serve port connections listed) broken r unread unsent h =
-      listed_serve_ends tells port connections listed broken r unsent _ _ _ _ h
-  works tells (Show it) broken r unread unsent h =
+  works at (Batch who now digits) broken r unread unsent h =
+      batch_ends at.tells who now digits r unread unsent h
+  works at (Pipe now digits) broken r unread unsent h = pipe_ends at.tells now digits r unread unsent h
+  works at (Serve port connections lists) broken r unread unsent h =
+      listed_serve_ends at port connections lists broken r unsent _ _ _ _ h
+  works at (Show it) broken r unread unsent h =
       show_ends H O N L w was kept torn (shown_text it) broken r unsent _ _ _ h
 
-  pub refined : (tells : Turns) (task : Task) (broken : Bool) (r : Result Outcome Stop)
-      (unread unsent : Type 0) → Does tells task w broken r unread unsent s
-      → Does tells task (over H O N L w) broken r unread unsent s
-  refined tells task broken r unread unsent h = record {
-    works = works tells task broken r unread unsent h.works;
+  pub refined : (at : Outside) (task : Task) (broken : Bool) (r : Result Outcome Stop)
+      (unread unsent : Type 0) → Does at task w broken r unread unsent s
+      → Does at task (over H O N L w) broken r unread unsent s
+  refined at task broken r unread unsent h = record {
+    works = works at task broken r unread unsent h.works;
     begun = h.begun;
     alone = h.alone;
     caused = h.caused;

@@ -1,6 +1,6 @@
 -- What a task does with a vault, by how it ends.
 use Rattle.std.specs.Prelude.{◌≡◌, ◌≢◌, ◌⊎◌, ℕ, ◌≤◌, List, [], IfErr, Option, Bool, true, false, Result, Ok}
-use Rattle.std.specs.Prelude.{Err, None, Some, codes, length, take}
+use Rattle.std.specs.Prelude.{Err, codes, length, take}
 use Rattle.std.specs.Io.KnownBytes.{Appends, IsAtEnd}
 use Rattle.vault_core.specs.Runs.{run}
 use Rattle.vault_core.specs.Vault.{Vault as Content}
@@ -13,26 +13,27 @@ use Rattle.vault_batch.specs.Stops.{IsBatched}
 use Rattle.vault_batch.specs.declared.asker.Asker.{Asker}
 use Rattle.vault_batch.specs.declared.counts.Counts.{Counts}
 use Rattle.vault_batch.specs.declared.fault.BatchFault.TheVariants as row
-use Rattle.vault_listen.specs.Peers.{Link}
-use Rattle.vault_listen.specs.Service.{Leaves}
+use Rattle.vault_live.specs.Turns.{AreSaid, Asking, Leaves, Turn}
 use Rattle.vault_listen.specs.declared.fault.ListenFault.TheVariants as listener
 use Rattle.vault_merchants.specs.Listed.{Wanted}
 use Rattle.vault_rights.specs.Named.{Row}
 use Rattle.vault_store.specs.Listed.{merchant_rows}
 use Rattle.vault_store.specs.declared.vault.Fault.{Fault}
-use Rattle.vault_store.specs.declared.vault.Fault.TheVariants as vault
 use Rattle.vault_changes.specs.Settings.{settings_at}
-use Rattle.vault_changes.specs.Settling.{FailsToRead, IsUntouched, Settles}
+use Rattle.vault_changes.specs.Settling.{FailsToRead, IsUntouched}
 use Rattle.vault_jobs.specs.Ahead.{is_merchant_ahead, moment_ahead}
 use Rattle.vault_jobs.specs.Batched.{StopsBatch}
+use Rattle.vault_jobs.specs.Beginning.{CarriesOut}
+use Rattle.vault_jobs.specs.Lists.{asked_of, begin_of, follows}
 use Rattle.vault_changes.specs.Carried.{Carries}
 use Rattle.vault_jobs.specs.Causes.{IsCauseOf}
 use Rattle.vault_changes.specs.Grants.{AreDone, CarriesAll, grants_at}
 use Rattle.vault_jobs.specs.Outcomes.{ComesTo, no_outcome}
+use Rattle.vault_jobs.specs.Outside.{Outside}
 use Rattle.vault_jobs.specs.Piped.{IsPiped, StopsPiping}
 use Rattle.vault_jobs.specs.Streams.{Known, Streams}
 use Rattle.vault_jobs.specs.Sweeps.{Sweeps}
-use Rattle.vault_jobs.specs.Tasks.{BreaksBy, HasNoLinks, IsTaskBegun, granted_line}
+use Rattle.vault_jobs.specs.Tasks.{BreaksBy, HasNoTurns, IsTaskBegun, granted_line}
 use Rattle.vault_jobs.specs.Tasks.{listening_line, merchants_line, purged_line}
 use Rattle.vault_jobs.specs.declared.clock.Giver.{Giver}
 use Rattle.vault_jobs.specs.declared.clock.Giver.TheVariants.{Words, Clock}
@@ -44,7 +45,7 @@ use Rattle.vault_jobs.specs.declared.task.Outcome.TheVariants as outcome
 use Rattle.vault_jobs.specs.declared.task.Task.{Task}
 use Rattle.vault_jobs.specs.declared.task.Task.TheVariants.{Change, Give, Settle, SetMerchants, Sweep, Batch}
 use Rattle.vault_jobs.specs.declared.task.Task.TheVariants.{Pipe, Serve, Show}
-use Rattle.vault_jobs.specs.declared.task.Listed.{Listed}
+use Rattle.vault_jobs.specs.declared.lists.Lists.{Lists}
 use Rattle.vault_changes.specs.declared.changes.Changes.{Changes}
 use Rattle.vault_changes.specs.Changes.{AreChangesOf, settled_line}
 use Rattle.vault_jobs.specs.Listing.{shown_text}
@@ -124,20 +125,23 @@ PipeEnds tells now digits w result unread unsent s = ComesTo (record no_outcome 
       ⊎ Along tells 1000 now digits w s (λ p. StopsPiping s.left_old s.left_new p f);
 }) result
 
--- the service said on which port it listens: the one that was asked for, or any where that is 0
-abbrev pub IsListening : ℕ → Known → Known → Type 0
-IsListening port old new = (bound : ℕ) × (port ≢ 0 → bound ≡ port) × Appends old new (listening_line bound)
+-- The service said on which port it listens: the one that was asked for, or any where that is 0. Then it said
+-- what was done in its turns.
+abbrev pub IsListening : ℕ → Known → Known → List Turn → Type 0
+IsListening port old new turns = (bound : ℕ) × (port ≢ 0 → bound ≡ port)
+    × ((middle : Known) × Appends old middle (listening_line bound) × AreSaid middle new turns)
 
--- How a service on a port ends: it said where it listens, and of the connections that came each was answered;
--- or it wasn't begun, for want of digits or of a port, or since the writer failed, and none came.
-abbrev pub ServeEnds : Turns → ℕ → ℕ → Passage → Result Outcome Stop → Type 0 → Known → Known → Bool
-    → List (Option Link) → Type 0
-ServeEnds tells port most w result unsent old new writer links = ComesTo (record no_outcome {
-  done = (writer ≡ false) × IsListening port old new × Leaves tells most links w (Ok tt);
-  service = λ f. IsUntouched w × (links ≡ [])
+-- How a service on a port ends: it said where it listens, and in its turns each connection that came was
+-- answered, and what was asked for between two was done; or it wasn't begun, for want of digits or of a port,
+-- or since the writer failed, and there was no turn.
+abbrev pub ServeEnds : Turns → Asking → ℕ → ℕ → Passage → Result Outcome Stop → Type 0 → Known → Known → Bool
+    → List Turn → Type 0
+ServeEnds tells asks port most w result unsent old new writer turns = ComesTo (record no_outcome {
+  done = IsListening port old new turns × Leaves tells asks most turns w (Ok tt);
+  service = λ f. IsUntouched w × (turns ≡ [])
       × ((f ≡ service.Source) × unsent ⊎ (f ≡ service.Write) × (writer ≡ true));
-  listener = λ f. (f ≡ listener.Accept) × unsent × IsUntouched w × (links ≡ [])
-      ⊎ IsListening port old new × Leaves tells most links w (Err f);
+  listener = λ f. (f ≡ listener.Accept) × unsent × IsUntouched w × (turns ≡ [])
+      ⊎ IsListening port old new turns × Leaves tells asks most turns w (Err f);
 }) result
 
 -- How a task ends that makes the rights exactly those of a list: its changes end as commands do, with a line
@@ -171,62 +175,62 @@ ShowEnds text w broken result unsent old new writer = ComesTo (record no_outcome
       × IsUntouched w × ((V : Content) → IsBefore w V → (n : ℕ) × Appends old new (take n (text V)));
 }) result
 
--- the passage from the vault that commands leave
-abbrev pub behind : List Command → Passage → Passage
-behind cs w = record w { held_old = λ U. (V : Content) × w.held_old V × (U ≡ run cs V) }
+-- the passage from the vault that its commands leave
+abbrev pub behind : (Content → List Command) → Passage → Passage
+behind wants w = record w { held_old = λ U. (V : Content) × w.held_old V × (U ≡ run (wants V) V) }
 
--- How the rights of a list end that stand before a service: they aren't all given, so no connection comes;
--- they are refused, or stopped by the vault.
-abbrev pub ListEnds : ℕ → List Row → Passage → Bool → Result Outcome Stop → Type 0 → Type 0
-ListEnds now rows w broken result unsent = ComesTo (record no_outcome {
-  refused = λ n. unsent × Settles now rows w broken (Ok (Err n));
-  vault = λ f. unsent × (Settles now rows w broken (Err f) ⊎ FailsToRead w broken f);
+-- How what the lists of a service ask for ends before it listens, where it isn't all done: refused, or
+-- stopped by the vault. Nothing goes out.
+abbrev pub BeginEnds : Lists → Passage → Bool → Result Outcome Stop → Type 0 → Type 0
+BeginEnds lists w broken result unsent = ComesTo (record no_outcome {
+  refused = λ n. unsent × CarriesOut (begin_of lists) w broken (Ok (Err n));
+  vault = λ f. unsent × CarriesOut (begin_of lists) w broken (Err f);
 }) result
 
--- How a service ends that may begin with a list of rights: they are all done, and it ends as a service does,
--- from the vault that they leave; or it doesn't listen.
-abbrev pub ListedServeEnds : Turns → ℕ → ℕ → Option Listed → Passage → Bool → Result Outcome Stop → Type 0
-    → Known → Known → Bool → List (Option Link) → Type 0
-ListedServeEnds tells port most None w broken result unsent old new writer links =
-    ServeEnds tells port most w result unsent old new writer links
-ListedServeEnds tells port most (Some it) w broken result unsent old new writer links =
-    (links ≡ []) × ListEnds it.now it.rights.items w broken result unsent
-    ⊎ ((changes : Changes)
-    × ((V : Content) → IsBefore w V → AreChangesOf true it.now it.rights.items V changes
-    × AreDone (length changes.commands.items) changes.commands.items V)
-    × ServeEnds tells port most (behind changes.commands.items w) result unsent old new writer links)
+-- with Done the writer hasn't failed
+abbrev pub EndsUnfailed : Result Outcome Stop → Bool → Type 0
+EndsUnfailed result writer = result ≡ Ok outcome.Done → writer ≡ false
+
+-- How a service ends that may follow lists. What they ask for before it listens isn't all done, and there is
+-- no turn. Or it is, and then it ends as a service does, from the vault that this leaves.
+abbrev pub ListedServeEnds : Outside → ℕ → ℕ → Lists → Passage → Bool → Result Outcome Stop → Type 0
+    → Known → Known → Bool → List Turn → Type 0
+ListedServeEnds at port most lists w broken result unsent old new writer turns =
+    (follows lists ≡ true) × (turns ≡ []) × BeginEnds lists w broken result unsent
+    ⊎ ((V : Content) → IsBefore w V → AreDone (length (begin_of lists V)) (begin_of lists V) V)
+    × ServeEnds at.tells (asked_of at lists) port most (behind (begin_of lists) w) result unsent old new
+    writer turns × (follows lists ≡ false → EndsUnfailed result writer)
 
 -- what a task does with a vault, and what goes out, by how it ends
-abbrev pub Works : Turns → Task → Passage → Bool → Result Outcome Stop → Type 0 → Type 0 → Streams → Type 0
-Works tells (Change c) w broken result unread unsent s =
+abbrev pub Works : Outside → Task → Passage → Bool → Result Outcome Stop → Type 0 → Type 0 → Streams → Type 0
+Works at (Change c) w broken result unread unsent s =
     CommandsEnd (Carries c w broken) (codes "done\n") result
     unsent s.sent_old s.sent_new s.writer
-Works tells (Give rows now) w broken result unread unsent s =
+Works at (Give rows now) w broken result unread unsent s =
     CommandsEnd (CarriesAll (grants_at now rows.items) w broken) (granted_line (length rows.items)) result
     unsent s.sent_old s.sent_new s.writer
-Works tells (Settle rows now) w broken result unread unsent s =
+Works at (Settle rows now) w broken result unread unsent s =
     SettleEnds now rows.items w broken result unsent s.sent_old s.sent_new s.writer
-Works tells (SetMerchants rows now) w broken result unread unsent s =
+Works at (SetMerchants rows now) w broken result unread unsent s =
     SetEnds now rows.items w broken result unsent s.sent_old s.sent_new s.writer
-Works tells (Sweep who now giver) w broken result unread unsent s =
+Works at (Sweep who now giver) w broken result unread unsent s =
     TimedSweepEnds giver who now w broken result unsent s.sent_old s.sent_new s.writer
-Works tells (Batch who now digits) w broken result unread unsent s =
-    BatchEnds tells who now digits w result unread unsent s
-Works tells (Pipe now digits) w broken result unread unsent s =
-    PipeEnds tells now digits w result unread unsent s
-Works tells (Serve port connections listed) w broken result unread unsent s =
-    ListedServeEnds tells port connections listed w broken result unsent s.sent_old s.sent_new s.writer
-    s.links
-Works tells (Show it) w broken result unread unsent s =
+Works at (Batch who now digits) w broken result unread unsent s =
+    BatchEnds at.tells who now digits w result unread unsent s
+Works at (Pipe now digits) w broken result unread unsent s =
+    PipeEnds at.tells now digits w result unread unsent s
+Works at (Serve port connections lists) w broken result unread unsent s =
+    ListedServeEnds at port connections lists w broken result unsent s.sent_old s.sent_new s.writer s.turns
+Works at (Show it) w broken result unread unsent s =
     ShowEnds (shown_text it) w broken result unsent s.sent_old s.sent_new s.writer
 
--- What a task does: it works so; the input is unread, but by a batch and messages; no connection comes, but
--- to a service; a reader or a writer stops it only where that failed; and the vault is broken by a store that
+-- What a task does: it works so; the input is unread, but by a batch and messages; there are no turns, but
+-- of a service; a reader or a writer stops it only where that failed; and the vault is broken by a store that
 -- fails.
-pub record Does (tells : Turns) (task : Task) (w : Passage) (broken : Bool) (result : Result Outcome Stop)
+pub record Does (at : Outside) (task : Task) (w : Passage) (broken : Bool) (result : Result Outcome Stop)
     (unread unsent : Type 0) (s : Streams) : Type 0 where
-  pub works : Works tells task w broken result unread unsent s
+  pub works : Works at task w broken result unread unsent s
   pub begun : IsTaskBegun task unread
-  pub alone : HasNoLinks task s
+  pub alone : HasNoTurns task s
   pub caused : IfErr result (λ stop. IsCauseOf stop s)
   pub breaks : BreaksBy task result broken

@@ -1,14 +1,16 @@
 pub mod Ahead
 pub mod Batched
+pub mod Beginning
 pub mod Causes
 pub mod Doing
 pub mod Failing
 pub mod Listing
+pub mod Lists
 pub mod Moments
 pub mod Outcomes
+pub mod Outside
 pub mod Piped
 pub mod Streams
 pub mod Sweeps
 pub mod Tasks
-pub mod Told
 pub mod Trial

@@ -1,5 +1,5 @@
 -- What is done with a vault.
-use Rattle.std.specs.Prelude.{◌≡◌, ◌⊎◌, ℕ, All, List, [], Bool, true, Some, Result, Ok, Err, ◌++◌}
+use Rattle.std.specs.Prelude.{◌≡◌, ◌⊎◌, ℕ, All, IfSome, List, [], Bool, true, Result, Ok, Err, ◌++◌}
 use Rattle.std.specs.Prelude.{codes, decimal}
 use Rattle.vault_core.specs.Proper.{HasLivesInRange}
 use Rattle.vault_changes.specs.Settings.{HasLives}
@@ -9,6 +9,7 @@ use Rattle.vault_listen.specs.declared.fault.ListenFault.TheVariants as listener
 use Rattle.vault_store.specs.Applied.{is_broken}
 use Rattle.vault_store.specs.declared.vault.Fault.TheVariants as vault
 use Rattle.vault_store.specs.declared.vault.Vault.{Vault as Held}
+use Rattle.vault_jobs.specs.Lists.{follows}
 use Rattle.vault_jobs.specs.Streams.{Streams}
 use Rattle.vault_jobs.specs.declared.stop.Stop.{Stop}
 use Rattle.vault_jobs.specs.declared.stop.Stop.TheVariants.{Vault, Service, Listener, Rights}
@@ -38,16 +39,17 @@ purged_line count = codes "purged " ++ decimal count ++ codes "\n"
 abbrev pub IsProper : Task → Type 0
 IsProper (Change c) = HasLivesInRange c
 IsProper (SetMerchants rows now) = All HasLives rows.items
+IsProper (Serve port connections lists) = IfSome lists.merchants (λ it. All HasLives it.rows.items)
 IsProper task = Unit {0}
 
--- it carries out commands of its own, which may be refused: so does a service that begins with rights
+-- it carries out commands of its own, which may be refused: so does a service that follows a list
 abbrev pub IsOfCommands : Task → Type 0
 IsOfCommands (Change c) = Unit {0}
 IsOfCommands (Give rows now) = Unit {0}
 IsOfCommands (Settle rows now) = Unit {0}
 IsOfCommands (SetMerchants rows now) = Unit {0}
 IsOfCommands (Sweep who now giver) = Unit {0}
-IsOfCommands (Serve port connections (Some listed)) = Unit {0}
+IsOfCommands (Serve port connections lists) = follows lists ≡ true
 IsOfCommands task = ⊥
 
 -- the input is unread, but by a batch and messages
@@ -56,10 +58,10 @@ IsTaskBegun (Batch who now digits) unread = Unit {0}
 IsTaskBegun (Pipe now digits) unread = Unit {0}
 IsTaskBegun task unread = unread
 
--- no connection came, but to a service
-abbrev pub HasNoLinks : Task → Streams → Type 0
-HasNoLinks (Serve port connections listed) s = Unit {0}
-HasNoLinks task s = s.links ≡ []
+-- there was no turn, but of a service
+abbrev pub HasNoTurns : Task → Streams → Type 0
+HasNoTurns (Serve port connections lists) s = Unit {0}
+HasNoTurns task s = s.turns ≡ []
 
 -- the store failed
 abbrev pub FailsStore : Result Outcome Stop → Type 0

@@ -5,9 +5,9 @@ ghost use Rattle.std.specs.List.{flat_map};
 ghost use Rattle.vault_wire.specs.Watching.{inner_of, is_stopped};
 ghost use Rattle.vault_jobs.specs.Failing.{GoesOn};
 
-use crate::told::tell;
 use std::io::Write;
 use vault_http::fault::ServeFault;
+use vault_live::told::tell;
 use vault_wire::send::send;
 use vault_wire::watched::Watched;
 

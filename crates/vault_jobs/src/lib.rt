@@ -4,15 +4,17 @@
 pub mod ahead;
 pub mod answer;
 pub mod batch;
+mod beginning;
 pub mod clock;
 pub mod grants;
 pub mod listening;
+pub mod lists;
 pub mod pipe;
+mod serving;
 pub mod show;
 mod shown;
 pub mod source;
 pub mod stop;
 pub mod sweep;
 pub mod task;
-pub mod told;
 pub mod trial;

@@ -1,12 +1,12 @@
 //! A vault served on a port.
-ghost use Rattle.std.specs.Prelude.{◌≡◌, ◌++◌, Err, List, None, Option, false};
+ghost use Rattle.std.specs.Prelude.{◌≡◌, ◌++◌, Err, List, false, true};
 ghost use Rattle.vault_store.specs.Applied.{is_broken, tables_of};
 ghost use Rattle.vault_wire.specs.Watching.{inner_of, is_stopped};
 ghost use Rattle.vault_engine.specs.Passing.{Passage};
-ghost use Rattle.vault_listen.specs.Peers.{Event, Link, events_of, vault_passing};
-ghost use Rattle.vault_jobs.specs.Doing.{ServeEnds};
-ghost use Rattle.vault_jobs.specs.Tasks.{BreaksBy};
-ghost use Rattle.vault_jobs.specs.declared.task.Task.{Task};
+ghost use Rattle.vault_listen.specs.Peers.{Event, vault_passing};
+ghost use Rattle.vault_live.specs.Turns.{Turn, events_in};
+ghost use Rattle.vault_jobs.specs.Doing.{EndsUnfailed, ServeEnds};
+ghost use Rattle.vault_jobs.specs.Tasks.{BreaksTask, FailsStore};
 
 use crate::answer::answer;
 use crate::stop::Stop;
@@ -17,36 +17,46 @@ use rand::rngs::StdRng;
 use std::io::Write;
 use vault_http::fault::ServeFault;
 use vault_listen::network::Network;
-use vault_listen::service::serve_on;
 use vault_listen::time::Timekeeper;
+use vault_live::office::Office;
+use vault_live::turns::serve_turns;
 use vault_store::tables::Tables;
 use vault_store::vault::Vault;
 use vault_wire::watched::Watched;
 
-/// Listens, says on which port, and serves so many connections by a vault.
+/// Listens, says on which port, and serves so many connections by a vault. Between two of them it carries out
+/// what the office asks for, and says so.
 ///
 /// 60 Source: there is nothing to draw digits from, or the time jumped. 62 Write: the port can't be said. 63
 /// Store: the store failed. 64 Memory: memory was refused. 80 Accept: listening or accepting was refused.
-pub fn serve_at<K: Timekeeper, N: Network, W: Write, T: Tables>(
+pub fn serve_at<K: Timekeeper, N: Network, O: Office, W: Write, T: Tables>(
     rt: &HostRuntime,
     time: &K,
     network: &mut N,
     port: u16,
     connections: u64,
+    office: &O,
+    kept: &mut O::Kept,
     vault: &mut Vault<T>,
     output: &mut Watched<W>,
 ) -> Result<Outcome, Stop>
-    // the vault isn't broken
-    requires { is_broken vault.old ≡ false }
-    // it said its port and served the connections that the network tells of; or none came, and on an honest
-    // disk the vault stayed
+    // what the office remembers is its own
+    requires remembers { O.remembers office.now kept.old }
+    requires unbroken { is_broken vault.old ≡ false }
+    // it said its port, and its turns are those that the network tells of; or there was none, and on an
+    // honest disk the vault stayed
     ensures does { let w : Passage = vault_passing T.is_honest T.holds T.leaves vault.old vault.new in
-        (links : List (Option Link))
-        × ((log : List Event) → N.tells network.old log → N.tells network.new (log ++ events_of links))
-        × ServeEnds (K.tells time.now) port connections w result (output.new ≡ output.old)
-        (W.contents (inner_of output.old)) (W.contents (inner_of output.new)) (is_stopped output.new) links }
-    // the vault is broken exactly where the store failed
-    ensures breaks { BreaksBy (Task.Serve port connections None) result (is_broken vault.new) }
+        (turns : List Turn)
+        × ((log : List Event) → N.tells network.old log → N.tells network.new (log ++ events_in turns))
+        × ServeEnds (K.tells time.now) (O.asks office.now (K.tells time.now)) port connections w result
+        (output.new ≡ output.old) (W.contents (inner_of output.old)) (W.contents (inner_of output.new))
+        (is_stopped output.new) turns }
+    // the vault is broken only where the store failed
+    ensures broken { BreaksTask vault.new result }
+    // and there always, where the office carries out nothing
+    ensures store { O.acts office.now ≡ false → FailsStore result → is_broken vault.new ≡ true }
+    // and then, with Done, the writer hasn't failed
+    ensures writer_ok { O.acts office.now ≡ false → EndsUnfailed result (is_stopped output.new) }
     // a disk that is honest after the call was so before it
     ensures disk_honest { T.is_honest (tables_of vault.new) → T.is_honest (tables_of vault.old) }
 {
@@ -62,13 +72,16 @@ pub fn serve_at<K: Timekeeper, N: Network, W: Write, T: Tables>(
         network.end(peers);
         return Err(Stop::Service(fault));
     }
-    let ended = serve_on(
+    let ended = serve_turns(
         rt.alloc(),
         time,
         &mut generator,
         &mut peers,
+        office,
+        kept,
         connections,
         vault,
+        output,
     );
     network.end(peers);
     match ended {

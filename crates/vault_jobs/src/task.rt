@@ -1,14 +1,16 @@
 //! What is done with a vault.
-ghost use Rattle.std.specs.Prelude.{◌≡◌, ◌++◌, All, IfErr, List, Option, codes, false, length, true};
+ghost use Rattle.std.specs.Prelude.{◌≡◌, ◌++◌, All, IfErr, List, codes, false, length, true};
 ghost use Rattle.vault_core.specs.Proper.{HasLivesInRange};
 ghost use Rattle.vault_store.specs.Applied.{is_broken, tables_of};
 ghost use Rattle.vault_engine.specs.Passing.{Passage};
-ghost use Rattle.vault_listen.specs.Peers.{Event, Link, events_of, vault_passing};
+ghost use Rattle.vault_listen.specs.Peers.{Event, vault_passing};
+ghost use Rattle.vault_live.specs.Turns.{Turn, events_in};
 ghost use Rattle.vault_changes.specs.Carried.{Carries};
 ghost use Rattle.vault_wire.specs.Watching.{inner_of, is_stopped};
 ghost use Rattle.vault_jobs.specs.Causes.{IsCauseOf};
-ghost use Rattle.vault_jobs.specs.Streams.{Streams, streams, with_links};
-ghost use Rattle.vault_jobs.specs.Doing.{BatchEnds, CommandsEnd, Does, ListedServeEnds, PipeEnds};
+ghost use Rattle.vault_jobs.specs.Outside.{outside};
+ghost use Rattle.vault_jobs.specs.Streams.{Streams, streams, with_turns};
+ghost use Rattle.vault_jobs.specs.Doing.{BatchEnds, CommandsEnd, Does, PipeEnds};
 ghost use Rattle.vault_jobs.specs.Doing.{SetEnds, SettleEnds, ShowEnds, SweepEnds, TimedSweepEnds};
 ghost use Rattle.vault_jobs.specs.Listing.{shown_text};
 ghost use Rattle.vault_changes.specs.Grants.{CarriesAll, grants_at};
@@ -21,8 +23,9 @@ use crate::answer::{answer, answer_text};
 use crate::batch::batch_input;
 use crate::clock::Giver;
 use crate::grants::give_all;
-use crate::listening::serve_at;
+use crate::lists::Lists;
 use crate::pipe::pipe;
+use crate::serving::serve_lists;
 use crate::show::Shown;
 use crate::shown::text_of;
 use crate::source::{MOST_MESSAGES, MOST_ROWS, pairs};
@@ -42,6 +45,7 @@ use vault_core::moment::Moment;
 use vault_http::fault::ServeFault;
 use vault_listen::network::Network;
 use vault_listen::time::Timekeeper;
+use vault_live::desk::Desk;
 use vault_merchants::read::ListedMerchant;
 use vault_pan::draw::Digits;
 use vault_refusal::refusal::Refusal;
@@ -67,18 +71,11 @@ pub enum Task {
     Batch(Asker, Option<Moment>, Option<Digits>),
     /// Answers the messages of the input, with this moment and these digits, where they are fixed.
     Pipe(Option<Moment>, Option<Digits>),
-    /// Serves so many connections on a port; and makes the rights exactly those of a list before that, where
-    /// there is one.
-    Serve(u16, u64, Option<Listed>),
+    /// Serves so many connections on a port. Before that, and again whenever they change, the merchants of a
+    /// list are set and the rights made exactly those of a list, where there are such lists.
+    Serve(u16, u64, Lists),
     /// Says what the vault holds.
     Show(Shown),
-}
-
-/// The rights of a list, and the moment at which they are given.
-#[derive(Drop)]
-pub struct Listed {
-    pub rights: Vec<ListedRight>,
-    pub now: Moment,
 }
 
 /// How a task ends that isn't stopped.
@@ -259,42 +256,6 @@ fn do_show<W: Write, T: Tables>(
     }
 }
 
-/// Serves connections; and makes the rights exactly those of a list before it listens, where there is one.
-fn do_serve<K: Timekeeper, N: Network, W: Write, T: Tables>(
-    rt: &HostRuntime,
-    time: &K,
-    network: &mut N,
-    port: u16,
-    connections: u64,
-    listed: &Option<Listed>,
-    vault: &mut Vault<T>,
-    output: &mut Watched<W>,
-) -> Result<Outcome, Stop>
-    // the vault isn't broken
-    requires { is_broken vault.old ≡ false }
-    // rights that are listed are settled before it listens, or no connection came; from the vault that they
-    // leave it ends as a service
-    ensures does { let w : Passage = vault_passing T.is_honest T.holds T.leaves vault.old vault.new in
-        (links : List (Option Link))
-        × ((log : List Event) → N.tells network.old log → N.tells network.new (log ++ events_of links))
-        × ListedServeEnds (K.tells time.now) port connections listed.now w (is_broken vault.new) result
-        (output.new ≡ output.old) (W.contents (inner_of output.old)) (W.contents (inner_of output.new))
-        (is_stopped output.new) links }
-    // the vault is broken only where the store failed, and there always, unless rights are listed
-    ensures breaks { BreaksBy (Task.Serve port connections listed.now) result (is_broken vault.new) }
-    // a disk that is honest after the call was so before it
-    ensures disk_honest { T.is_honest (tables_of vault.new) → T.is_honest (tables_of vault.old) }
-{
-    let Some(listed) = listed else {
-        return serve_at(rt, time, network, port, connections, vault, output);
-    };
-    match settle(rt.alloc(), vault, listed.rights.as_slice(), listed.now) {
-        Ok((Ok(()), _)) => serve_at(rt, time, network, port, connections, vault, output),
-        Ok((Err(number), _)) => Ok(Outcome::Refused(number)),
-        Err(fault) => Err(Stop::Vault(fault)),
-    }
-}
-
 /// Purges the numbers of dead tokens, and says how many.
 fn do_purges<W: Write, T: Tables>(
     vault: &mut Vault<T>,
@@ -434,10 +395,11 @@ fn do_pipe<K: Timekeeper, R: Read, W: Write, T: Tables>(
 }
 
 /// Does a task on a vault.
-pub fn do_task<K: Timekeeper, N: Network, R: Read, W: Write, T: Tables>(
+pub fn do_task<K: Timekeeper, N: Network, D: Desk, R: Read, W: Write, T: Tables>(
     rt: &HostRuntime,
     time: &K,
     network: &mut N,
+    desk: &D,
     task: &Task,
     vault: &mut Vault<T>,
     input: &mut Watched<R>,
@@ -446,14 +408,13 @@ pub fn do_task<K: Timekeeper, N: Network, R: Read, W: Write, T: Tables>(
     // the lives that the command of a `Change` sets, if any, and those of a list of merchants are in range
     requires proper { IsProper task.now }
     requires unbroken { is_broken vault.old ≡ false }
-    // by how it ends: what it did to the vault, what it read and sent, and which connections the network
-    // tells of
+    // by how it ends: what it did to the vault, what it read and sent, and which turns the network tells of
     ensures does { let w : Passage = vault_passing T.is_honest T.holds T.leaves vault.old vault.new in
         let s : Streams = streams R.remaining input.old input.new W.contents output.old output.new in
-        (links : List (Option Link))
-        × ((log : List Event) → N.tells network.old log → N.tells network.new (log ++ events_of links))
-        × Does (K.tells time.now) task.now w (is_broken vault.new) result (input.new ≡ input.old)
-        (output.new ≡ output.old) (with_links s links) }
+        (turns : List Turn)
+        × ((log : List Event) → N.tells network.old log → N.tells network.new (log ++ events_in turns))
+        × Does (outside (K.tells time.now) (D.says desk.now)) task.now w (is_broken vault.new) result
+        (input.new ≡ input.old) (output.new ≡ output.old) (with_turns s turns) }
     // a disk that is honest after the call was so before it
     ensures disk_honest { T.is_honest (tables_of vault.new) → T.is_honest (tables_of vault.old) }
 {
@@ -469,8 +430,18 @@ pub fn do_task<K: Timekeeper, N: Network, R: Read, W: Write, T: Tables>(
             do_batch(rt, time, asker, moment, digits, vault, input, output)
         }
         Task::Pipe(moment, digits) => do_pipe(rt, time, moment, digits, vault, input, output),
-        Task::Serve(port, connections, ref listed) => {
-            do_serve(rt, time, network, port, connections, listed, vault, output)
+        Task::Serve(port, connections, ref lists) => {
+            serve_lists(
+                rt,
+                time,
+                network,
+                desk,
+                port,
+                connections,
+                lists,
+                vault,
+                output,
+            )
         },
         Task::Show(ref shown) => do_show(rt.alloc(), vault, shown, output),
     }

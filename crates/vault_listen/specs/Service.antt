@@ -58,8 +58,8 @@ GoesOn None = Unit {0}
 GoesOn (Some x) = x.ended ≢ Err fault.Store
 
 -- What a service of so many connections leaves, where these came. It is done with the last one; the time is
--- found to have jumped after one that came; the store fails in the last that came, and in none before; memory
--- is refused before the first; and where the listener fails, fewer came.
+-- found to have jumped after one that came; the store fails in the last that came, and in none before; and
+-- where the listener fails, fewer came.
 abbrev pub Leaves : Turns → ℕ → List (Option Link) → Passage → Result Unit ListenFault → Type 0
 Leaves tells most xs w (Ok done) = (length xs ≡ most) × All GoesOn xs × AllKept tells xs w
 Leaves tells most xs w (Err Source) = (0 < length xs) × (length xs ≤ most) × All GoesOn xs
@@ -67,5 +67,5 @@ Leaves tells most xs w (Err Source) = (0 < length xs) × (length xs ≤ most) ×
 Leaves tells most xs w (Err Store) = (length xs ≤ most) × ((first : List (Option Link)) × (last : Link)
     × (xs ≡ first ++ Some last ∷ []) × All GoesOn first × (last.ended ≡ Err fault.Store)
     × OneUndecided tells first last w)
-Leaves tells most xs w (Err Memory) = (xs ≡ []) × AllKept tells [] w
+Leaves tells most xs w (Err Memory) = ⊥
 Leaves tells most xs w (Err Accept) = (length xs < most) × All GoesOn xs × AllKept tells xs w

@@ -38,6 +38,9 @@ pub trait Peers {
     // such may the events so far have been
     ghost tells: { Self → List Event → Type 0 };
 
+    /// Whether a connection waits, or comes within this time.
+    fn waits(&self, most: Duration) -> bool;
+
     /// Waits for the next connection. One that was lost before it was accepted comes too, without a stream.
     ///
     /// 80 Accept: none can be accepted.

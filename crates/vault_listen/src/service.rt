@@ -86,12 +86,13 @@ fn serve_link<P: Peers, K: Timekeeper, G: Rng, T: Tables>(
 /// its peer fails (61, 62); or for want of memory (64). None of these ends the service.
 ///
 /// 60 Source: after a connection the time has jumped, or couldn't be read at the start; nothing more is
-/// accepted. 63 Store: the store failed, or the vault was broken before; nothing more is accepted. 64 Memory:
-/// memory was refused before the first connection. 80 Accept: no connection can be accepted.
+/// accepted. 63 Store: the store failed, or the vault was broken before; nothing more is accepted. 80 Accept:
+/// no connection can be accepted.
 pub fn serve_on<P: Peers, K: Timekeeper, G: Rng, T: Tables>(
     alloc: Global,
     time: &K,
     generator: &mut G,
+    routes: &Routes,
     peers: &mut P,
     connections: u64,
     vault: &mut Vault<T>,
@@ -106,19 +107,14 @@ pub fn serve_on<P: Peers, K: Timekeeper, G: Rng, T: Tables>(
     ensures store { result ≡ Err ListenFault.Store → is_broken vault.new ≡ true }
     // after any other result, whether the vault is broken stays as it was
     ensures others { result ≢ Err ListenFault.Store → is_broken vault.new ≡ is_broken vault.old }
-    // after Memory the vault is as it was
-    ensures memory { result ≡ Err ListenFault.Memory → vault.new ≡ vault.old }
     // tables that can't fail give an unbroken vault no Store fault
     ensures infallible { NeverFails T.may_fail vault.old (result ≡ Err ListenFault.Store) }
     // a disk that is honest after the call was so before it
     ensures disk_honest { T.is_honest (tables_of vault.new) → T.is_honest (tables_of vault.old) }
 {
-    let Ok(routes) = Routes::new(alloc) else {
-        return Err(ListenFault::Memory);
-    };
     for _ in 0..connections {
         if let Some(link) = peers.accept()? {
-            serve_link(alloc, time, generator, &routes, peers, link, vault)?;
+            serve_link(alloc, time, generator, routes, peers, link, vault)?;
         }
         if time.has_jumped() {
             return Err(ListenFault::Source);

@@ -5,12 +5,13 @@ use crate::fault::ListenFault;
 use crate::linger::linger;
 use crate::peer::{Limits, Peer, PeerReader, PeerWriter};
 use crate::peers::{Accepted, Peers};
+use crate::waiting::comes;
 use std::alloc::Global;
 use std::io::ErrorKind;
 use std::net::{OpenListener, TcpStream};
 use std::os::fd::AsRawFd;
 use std::rc::Rc;
-use std::time::Clock;
+use std::time::{Clock, Duration};
 use vault_http::fault::ServeFault;
 use vault_http::served::Served;
 use vault_wire::watched::Watched;
@@ -118,6 +119,10 @@ impl<'c, L: OpenListener<Stream = TcpStream> + AsRawFd, C: Clock> Peers for TcpP
     type Writer = PeerWriter<'c, C>;
 
     ghost tells = { λ peers log. came_in log ≡ peers.came };
+
+    fn waits(&self, most: Duration) -> bool {
+        comes(self.listener.as_raw_fd(), most)
+    }
 
     fn accept(
         &mut self,

@@ -32,6 +32,13 @@ fn is_ready(fds: &mut [pollfd], wait: Duration) -> bool {
     poll(fds, millis) != 0
 }
 
+/// Whether another one is at the door, or comes to it within this time. A look that fails counts as nobody:
+/// who accepts after it might wait for ever.
+pub(crate) fn comes(door: RawFd, most: Duration) -> bool {
+    let millis = i32::try_from(most.as_millis()).unwrap_or(i32::MAX);
+    poll(&mut [input_of(door)], millis) > 0
+}
+
 /// Waits until a peer sends something, or, once it was quiet for 50 milliseconds, until another one comes to
 /// the door; and at most so long.
 pub(crate) fn end_of_quiet(peer: RawFd, door: RawFd, wait: Duration) -> Quiet {

@@ -1,5 +1,5 @@
 -- Pairs that a source gave: the first of them, and those of a clock that may tell more.
-use Rattle.std.proofs.Common.{◌≡◌, ◌+◌, ℕ, List, [], ◌∷◌, ◌++◌, Option, None}
+use Rattle.std.proofs.Common.{◌+◌, ℕ, List, [], ◌∷◌, ◌++◌, Option}
 use Rattle.std.proofs.lemmas.List.Elements.{All-nil}
 use Rattle.vault_engine.specs.Asking.{Pair}
 use Rattle.vault_listen.specs.Live.{AreGiven, AreTold, IsPairOf, Turns}

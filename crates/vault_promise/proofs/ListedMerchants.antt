@@ -23,7 +23,7 @@ use Rattle.vault_promise.proofs.TaskAnswers.{Works, commands_works}
 use Rattle.vault_promise.specs.Told.{IsQuiet}
 
 -- settings of some of the merchants are proper where those of all are
-some_set : (now : ℕ) (held : List Named) (rows : List Wanted) → AllProper (wanted_at now rows)
+pub some_set : (now : ℕ) (held : List Named) (rows : List Wanted) → AllProper (wanted_at now rows)
     → AllProper (settings_at now rows held)
 some_set now held [] proper = tt
 some_set now held (row ∷ rows) proper =

@@ -1,5 +1,5 @@
 -- What is told of a task whose clock told these moments is told of one whose clock may tell more.
-use Rattle.std.proofs.Common.{ℕ, List, [], ◌∷◌, Option, Some, None, inl, inr}
+use Rattle.std.proofs.Common.{ℕ, List, [], ◌∷◌, ◌++◌, Option, Some, None, inl, inr}
 use Rattle.std.specs.Prelude.{IfSome}
 use Rattle.vault_core.specs.Runs.{run}
 use Rattle.vault_core.specs.Vault.{Vault as Content}
@@ -7,12 +7,64 @@ use Rattle.vault_core.specs.declared.command.Command.{Command}
 use Rattle.vault_engine.specs.Asking.{Asked}
 use Rattle.vault_wire.specs.Parts.{Parts}
 use Rattle.vault_listen.specs.Live.{Turns}
-use Rattle.vault_listen.specs.Peers.{Link}
+use Rattle.vault_live.specs.Turns.{Turn}
+use Rattle.vault_live.specs.Turns.Turn.{Lost, Served, Attended}
+use Rattle.vault_merchants.specs.Listed.{AreListed}
+use Rattle.vault_live.specs.Following.{AreRowsIn}
+use Rattle.vault_live.specs.Kinds.{Naming, Wanting, merchants_changes, rights_changes}
+use Rattle.vault_live.specs.Turns.{AreAsked, Asking}
+use Rattle.vault_jobs.specs.Lists.{asked_by, asked_of, path_of}
+use Rattle.vault_jobs.specs.Outside.{Outside}
 use Rattle.vault_jobs.specs.Streams.{Streams}
+use Rattle.vault_jobs.specs.declared.lists.ListFile.{ListFile}
+use Rattle.vault_jobs.specs.declared.lists.Lists.{Lists}
 use Rattle.vault_jobs.specs.declared.task.Task.{Task}
 use Rattle.vault_jobs.specs.declared.task.Task.TheVariants as task
 use Rattle.vault_promise.proofs.GivenPairs.{given_more}
 use Rattle.vault_promise.specs.Told.{AllAnswer, AreAnswered, AreHeard, IsAskedNext, IsLastNext, IsNext, Tells}
+use Rattle.vault_promise.specs.Told.{seen}
+
+module _ (at other : Outside) (so : (turn now : ℕ) → at.tells turn now → other.tells turn now)
+    (seen : (path : List ℕ) (look : ℕ) (text : List ℕ) → at.looks path look text → other.looks path look text)
+  where
+    -- a list may ask for this also where more is told
+    list_more : {X : Type 0} (names : Naming X) (wants : Wanting X) (o : Option (ListFile X)) (V : Content)
+        (cs : List Command) → asked_by names wants at o V cs → asked_by names wants other o V cs
+    list_more names wants None V cs never = absurd never
+    list_more names wants (Some it) V cs asked =
+        let (look, text, settled, rows) = asked.settled in
+        record {
+          rows = asked.rows;
+          settled = (
+            look,
+            text,
+            record {
+              before = settled.before;
+              next = settled.next;
+              first = seen (path_of it) settled.before text settled.first;
+              again = seen (path_of it) look text settled.again;
+            },
+            rows,
+          );
+          now = asked.now;
+          told = so 0 asked.now asked.told;
+          are = asked.are;
+          proper = asked.proper;
+        }
+
+    -- and so may a service
+    pub looked_more : (lists : Lists) (V : Content) (cs : List Command) → asked_of at lists V cs
+        → asked_of other lists V cs
+    looked_more lists V cs (inl asked) =
+        inl (list_more AreListed merchants_changes lists.merchants V cs asked)
+    looked_more lists V cs (inr asked) = inr (list_more AreRowsIn rights_changes lists.rights V cs asked)
+
+-- so what was asked for in a turn
+asked_more : (asks other : Asking) → ((V : Content) (cs : List Command) → asks V cs → other V cs)
+    → (V : Content)
+    (cs : List Command) → AreAsked asks V cs → AreAsked other V cs
+asked_more asks other up V cs (inl none) = inl none
+asked_more asks other up V cs (inr (rest, asked)) = inr (rest, up V (cs ++ rest) asked)
 
 module _ (tells more : Turns) (so : (turn now : ℕ) → tells turn now → more turn now) where
   heard_more : (now : Option ℕ) (digits : Option (List ℕ)) (s : Streams) (xs : List (Asked Parts))
@@ -34,12 +86,23 @@ module _ (tells more : Turns) (so : (turn now : ℕ) → tells turn now → more
       → AreAnswered tells now digits V cs s → AreAnswered more now digits V cs s
   answered_more now digits V cs s (xs, are, heard, went) = (xs, are, heard_more now digits s xs heard, went)
 
-  all_more : (V : Content) (xs : List (Option Link)) (cs : List Command) → AllAnswer tells V xs cs
-      → AllAnswer more V xs cs
-  all_more V [] cs told = told
-  all_more V (None ∷ xs) cs told = all_more V xs cs told
-  all_more V (Some x ∷ xs) cs (first, rest, is, here, others) =
-      (first, rest, is, answered_more None None V first _ here, all_more (run first V) xs rest others)
+  -- what may be asked for, whatever was looked at
+  asks_more : (lists : Lists) (V : Content) (cs : List Command) → asked_of (seen tells) lists V cs
+      → asked_of (seen more) lists V cs
+  asks_more lists V cs asked =
+      looked_more (seen tells) (seen more) so (λ path look text. λ _. tt) lists V cs asked
+
+  all_more : (lists : Lists) (V : Content) (ts : List Turn) (cs : List Command)
+      → AllAnswer tells (asked_of (seen tells) lists) V ts cs
+      → AllAnswer more (asked_of (seen more) lists) V ts cs
+  all_more lists V [] cs told = told
+  all_more lists V (Lost ∷ ts) cs told = all_more lists V ts cs told
+  all_more lists V (Served x ∷ ts) cs (first, rest, is, here, others) =
+      (first, rest, is, answered_more None None V first _ here, all_more lists (run first V) ts rest others)
+  all_more lists V (Attended first news ∷ ts) cs (asked, (rest, is, others)) = (
+    asked_more _ _ (asks_more lists) V first asked,
+    (rest, is, all_more lists (run first V) ts rest others),
+  )
 
   pub tells_more : (t : Task) (V : Content) (cs : List Command) (s : Streams) → Tells tells t V cs s
       → Tells more t V cs s
@@ -56,20 +119,24 @@ module _ (tells more : Turns) (so : (turn now : ℕ) → tells turn now → more
     went,
   )
   tells_more (task.Pipe now digits) V cs s told = answered_more now digits V cs s told
-  tells_more (task.Serve port connections None) V cs s told = all_more V s.links cs told
-  tells_more (task.Serve port connections (Some it)) V cs s (inl none) = inl none
-  tells_more (task.Serve port connections (Some it)) V cs s (inr (rest, is, done, told)) =
-      inr (rest, is, done, all_more _ s.links rest told)
+  tells_more (task.Serve port connections lists) V cs s (inl none) = inl none
+  tells_more (task.Serve port connections lists) V cs s (inr (rest, is, done, told)) =
+      inr (rest, is, done, all_more lists _ s.turns rest told)
   tells_more (task.Show it) V cs s told = told
 
-  asked_more : (now : Option ℕ) (digits : Option (List ℕ)) (s : Streams) (cs : List Command) (x : Command)
+  heard_next : (now : Option ℕ) (digits : Option (List ℕ)) (s : Streams) (cs : List Command) (x : Command)
       → IsAskedNext tells now digits s cs x → IsAskedNext more now digits s cs x
   unfolding heard_more
-  asked_more now digits s cs x (xs, it, are, wanted, (heard, same)) =
+  heard_next now digits s cs x (xs, it, are, wanted, (heard, same)) =
       (xs, it, are, wanted, (heard_more now digits s xs heard, same))
 
-  last_more : (links : List (Option Link)) (x : Command) → IsLastNext tells links x → IsLastNext more links x
-  last_more links x (first, link, cs, are, next) = (first, link, cs, are, asked_more None None _ cs x next)
+  last_more : (lists : Lists) (V : Content) (ts : List Turn) (cs : List Command) (x : Command)
+      → IsLastNext tells (asked_of (seen tells) lists) V ts cs x
+      → IsLastNext more (asked_of (seen more) lists) V ts cs x
+  last_more lists V ts cs x (inl (first, link, own, are, next)) =
+      inl (first, link, own, are, heard_next None None _ own x next)
+  last_more lists V ts cs x (inr (first, own, news, before, are, is, asked)) =
+      inr (first, own, news, before, are, is, asked_more _ _ (asks_more lists) _ _ asked)
 
   next_more : (t : Task) (V : Content) (cs : List Command) (s : Streams) (x : Command)
       → IsNext tells t V cs s x → IsNext more t V cs s x
@@ -79,10 +146,10 @@ module _ (tells more : Turns) (so : (turn now : ℕ) → tells turn now → more
   next_more (task.SetMerchants rows now) V cs s x next = next
   next_more (task.Sweep who now giver) V cs s x next = next
   next_more (task.Batch who now digits) V cs s x next = next
-  next_more (task.Pipe now digits) V cs s x next = asked_more now digits s cs x next
-  next_more (task.Serve port connections None) V cs s x next = last_more s.links x next
-  next_more (task.Serve port connections (Some it)) V cs s x (inl listed) = inl listed
-  next_more (task.Serve port connections (Some it)) V cs s x (inr next) = inr (last_more s.links x next)
+  next_more (task.Pipe now digits) V cs s x next = heard_next now digits s cs x next
+  next_more (task.Serve port connections lists) V cs s x (inl first) = inl first
+  next_more (task.Serve port connections lists) V cs s x (inr (rest, is, next)) =
+      inr (rest, is, last_more lists _ s.turns rest x next)
   next_more (task.Show it) V cs s x next = next
 
   pub some_more : (t : Task) (V : Content) (cs : List Command) (s : Streams) (o : Option Command)

@@ -1,10 +1,8 @@
 -- A run that works on a file found a sound vault in it, or no table.
-use Rattle.std.proofs.Common.{◌≡◌, ◌⊎◌, ℕ, Bool, List, Option, Some, None, inl, inr, refl, arith, subst, true}
+use Rattle.std.proofs.Common.{◌≡◌, ◌⊎◌, ℕ, Bool, List, Some, inl, inr, refl, arith, subst, true}
 use Rattle.clap.specs.Words.{Text}
 use Rattle.sql_maps.specs.Schema.{no_schema}
-use Rattle.sqlite.specs.Effect.{Database}
 use Rattle.sqlite.specs.Files.{file_state}
-use Rattle.sqlite.specs.Held.{Held}
 use Rattle.sqlite.specs.State.{HasCleanDisk, State}
 use Rattle.sqlite.specs.View.{IsClean}
 use Rattle.sqlite_disk.specs.declared.Disk.{Ghosts}
@@ -13,20 +11,18 @@ use Rattle.sqlite_store.specs.declared.store.FileStore.{FileStore}
 use Rattle.sqlite_wal.specs.Recovery.{Image}
 use Rattle.vault_file.proofs.Opening.{found_in}
 use Rattle.vault_file.specs.Found.{OpensFrom}
-use Rattle.vault_file.specs.declared.fault.NotOpened.{NotOpened as FileFault}
 use Rattle.vault_schema.proofs.Newest.{held_in_newest}
 use Rattle.vault_schema.specs.Schema.{newest_schema}
 use Rattle.vault_verdict.specs.Opened.{HoldsSound, Opens, StandsSound}
 use Rattle.vault_verdict.specs.Reading.{IsFull}
 use Rattle.vault_engine.specs.Passing.{Passage}
 use Rattle.vault_listen.specs.Live.{Turns}
-use Rattle.vault_jobs.specs.Doing.{Does}
-use Rattle.vault_jobs.specs.Streams.{Known, Streams, streams, with_links}
+use Rattle.vault_live.specs.Following.{Looks}
+use Rattle.vault_jobs.specs.Streams.{Known, Streams, streams, with_turns}
 use Rattle.vault_jobs.specs.declared.task.Task.{Task}
 use Rattle.vault_app.specs.Files.{DoesOnFile, WorksOn}
 use Rattle.vault_app.specs.Jobs.{Does as DoesWords, DoesPlan}
-use Rattle.vault_app.specs.Plans.{IsPlanOf}
-use Rattle.vault_app.specs.World.{World, anything, world_of}
+use Rattle.vault_app.specs.World.{World, anything, outside_in, world_of}
 use Rattle.vault_app.specs.declared.ending.Ending.{Ending}
 use Rattle.vault_app.specs.declared.ending.Ending.TheVariants as ending
 use Rattle.vault_app.specs.declared.plan.Plan.{Plan}
@@ -78,7 +74,7 @@ module _ {D : Type 0} {g : Ghosts D} (world : World) (image : Image) (left : Fil
 
   by_ending : (end : Ending) → ¬ (IsNotOpened end) → (path : List ℕ) → world.holds path image → (t : Task)
       (unread unsent : Type 0) (s : Streams)
-      → DoesOnFile world.tells (world.holds path) left t end unread unsent s → HoldSound image
+      → DoesOnFile (outside_in world) (world.holds path) left t end unread unsent s → HoldSound image
   by_ending ending.Done opened path at t unread unsent s h = worked _ path at h
   by_ending ending.DoneWithLog opened path at t unread unsent s h = absurd h
   by_ending ending.Version opened path at t unread unsent s h = absurd h
@@ -114,13 +110,14 @@ module _ {D : Type 0} {g : Ghosts D} (world : World) (image : Image) (left : Fil
       absurd (cc)
   of_words words asks end opened unread unsent s (inr (none, without)) at = absurd (cc)
 
-pub files_open_sound : {D R W E K P : Type 0} (g : Ghosts D) (remaining : R → Known) (contents : W → Known)
-    (said : E → Known) (tells : K → Turns) (holds : P → List ℕ → Image → Type 0)
-    (lacks refuses : P → List ℕ → Type 0) (says : P → List ℕ → List ℕ → Type 0)
-    (logs : P → List ℕ → Bool → Type 0)
-    → FilesOpenSound g remaining contents said tells holds lacks refuses says logs
-files_open_sound g remaining contents said tells holds lacks refuses says logs image left words status time
-    paths links i i' o told o' e e' it at asks opened clean =
-    of_words (world_of (tells time) (holds paths) (lacks paths) (refuses paths) (says paths) (logs paths))
+pub files_open_sound : {D R W E K X P : Type 0} (g : Ghosts D) (remaining : R → Known) (contents : W → Known)
+    (said : E → Known) (tells : K → Turns) (looks : X → List ℕ → Looks)
+    (holds : P → List ℕ → Image → Type 0) (lacks refuses : P → List ℕ → Type 0)
+    (says : P → List ℕ → List ℕ → Type 0) (logs : P → List ℕ → Bool → Type 0)
+    → FilesOpenSound g remaining contents said tells looks holds lacks refuses says logs
+files_open_sound g remaining contents said tells looks holds lacks refuses says logs image left words status
+    time desk paths turns i i' o told o' e e' it at asks opened clean =
+    of_words (world_of (tells time) (looks desk) (holds paths) (lacks paths) (refuses paths) (says paths)
+    (logs paths))
     image left clean words asks it.ending opened (i' ≡ i) (told ≡ o)
-    (with_links (streams remaining i i' contents o told) links) it.does at
+    (with_turns (streams remaining i i' contents o told) turns) it.does at

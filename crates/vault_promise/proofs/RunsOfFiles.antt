@@ -24,8 +24,10 @@ use Rattle.vault_schema.specs.Stands.{newest}
 use Rattle.vault_recover.specs.Crashed.{AreBlank, KeepsEither, KeepsSuch, MayFind}
 use Rattle.vault_schema.specs.Holds.{AreOurs, Holds}
 use Rattle.vault_listen.specs.Live.{Turns}
+use Rattle.vault_live.specs.Following.{Looks}
 use Rattle.vault_jobs.specs.Doing.{Does}
-use Rattle.vault_jobs.specs.Streams.{Known, Streams, streams, with_links}
+use Rattle.vault_jobs.specs.Outside.{Outside}
+use Rattle.vault_jobs.specs.Streams.{Known, Streams, streams, with_turns}
 use Rattle.vault_jobs.specs.declared.stop.Stop.{Stop}
 use Rattle.vault_jobs.specs.declared.task.Outcome.{Outcome}
 use Rattle.vault_jobs.specs.declared.task.Outcome.TheVariants as outcome
@@ -36,12 +38,11 @@ use Rattle.clap.specs.Words.{Text}
 use Rattle.vault_words.specs.Commands.{program_app}
 use Rattle.vault_words.specs.Jobs.{IsAsked}
 use Rattle.vault_words.specs.declared.jobs.Job.{Job}
-use Rattle.vault_words.specs.declared.jobs.Job.TheVariants as job
 use Rattle.vault_app.specs.Jobs.{Does as DoesWords, DoesPlan, IsChecked, IsMoved}
 use Rattle.vault_app.specs.Plans.{IsProperPlan, IsTaskOf, saying}
 use Rattle.vault_app.specs.Asked.{AsksFor, schema_line, sound_line}
 use Rattle.vault_app.specs.Values.{AreValues}
-use Rattle.vault_app.specs.World.{World, world_of}
+use Rattle.vault_app.specs.World.{World, outside_in, world_of}
 use Rattle.vault_file.specs.Moved.{MovesAs, StaysOld}
 use Rattle.vault_app.specs.Commands.Check.{TellsSizes}
 use Rattle.vault_app.specs.Commands.Migrate.{TellsMoved}
@@ -57,7 +58,8 @@ use Rattle.vault_promise.proofs.OneKind.{only_move}
 use Rattle.vault_promise.proofs.PipedMessages.{pipe_works}
 use Rattle.vault_promise.proofs.RunHistories.{perhaps_sound}
 use Rattle.vault_promise.proofs.ListedMerchants.{set_works}
-use Rattle.vault_promise.proofs.SettledRights.{listed_serve_works, settle_works, show_works}
+use Rattle.vault_promise.proofs.Begun.{listed_serve_works}
+use Rattle.vault_promise.proofs.SettledRights.{settle_works, show_works}
 use Rattle.vault_promise.proofs.Spared.{early_free, left_alone, line_free, beside_free, new_spared, no_task}
 use Rattle.vault_promise.proofs.Spared.{none_checked, none_moved, spared_by, trial_free, unasked_free}
 use Rattle.vault_promise.proofs.Sweeping.{timed_sweep_works}
@@ -73,31 +75,31 @@ abbrev IsStill : Streams → Type 0
 IsStill s = Consumes s.left_old s.left_new []
 
 -- what a task does, by its clause
-works : (tells : Turns) (t : Task) (w : Passage) (V : Content) (b : IsBefore w V) → Sound V → (s : Streams)
+works : (at : Outside) (t : Task) (w : Passage) (V : Content) (b : IsBefore w V) → Sound V → (s : Streams)
     (broken : Bool) (r : Result Outcome Stop) (unread unsent : Type 0) → (unread → IsStill s)
     → (unsent → IsQuiet s) → AreValues t
-    → (F : Type 0) → (F → r ≡ Ok outcome.Done) → Does tells t w broken r unread unsent s
-    → Works tells w V t F s
-works tells (task.Change c) w V b sound s broken r unread unsent still quiet values F fin h =
-    change_works tells w V b s unsent quiet F c values.0 values.1 broken r fin h.works
-works tells (task.Give rights now) w V b sound s broken r unread unsent still quiet values F fin h =
-    give_works tells w V b s unsent quiet F rights now values broken r fin h.works
-works tells (task.Settle rights now) w V b sound s broken r unread unsent still quiet values F fin h =
-    settle_works tells w V b sound s unsent quiet F rights now values.0 values.1 broken r fin h.works
-works tells (task.SetMerchants rows now) w V b sound s broken r unread unsent still quiet values F fin h =
-    set_works tells w V b sound s unsent quiet F rows now values broken r fin h.works
-works tells (task.Sweep who now giver) w V b sound s broken r unread unsent still quiet values F fin h =
-    timed_sweep_works who now values.0 values.1 values.2 tells w V b sound s unsent quiet F giver broken r fin
+    → (F : Type 0) → (F → r ≡ Ok outcome.Done) → Does at t w broken r unread unsent s
+    → Works at.tells w V t F s
+works at (task.Change c) w V b sound s broken r unread unsent still quiet values F fin h =
+    change_works at.tells w V b s unsent quiet F c values.0 values.1 broken r fin h.works
+works at (task.Give rights now) w V b sound s broken r unread unsent still quiet values F fin h =
+    give_works at.tells w V b s unsent quiet F rights now values broken r fin h.works
+works at (task.Settle rights now) w V b sound s broken r unread unsent still quiet values F fin h =
+    settle_works at.tells w V b sound s unsent quiet F rights now values.0 values.1 broken r fin h.works
+works at (task.SetMerchants rows now) w V b sound s broken r unread unsent still quiet values F fin h =
+    set_works at.tells w V b sound s unsent quiet F rows now values broken r fin h.works
+works at (task.Sweep who now giver) w V b sound s broken r unread unsent still quiet values F fin h =
+    timed_sweep_works who now values.0 values.1 values.2 at.tells w V b sound s unsent quiet F giver broken
+    r fin
     h.works
-works tells (task.Batch who now digits) w V b sound s broken r unread unsent still quiet values F fin h =
-    batch_works tells who now digits values.0 values.1 w V b s F r unread unsent quiet h.works
-works tells (task.Pipe now digits) w V b sound s broken r unread unsent still quiet values F fin h =
-    pipe_works tells now digits w V b s F r unread unsent still quiet h.works
-works tells (task.Serve port connections listed) w V b sound s broken r unread unsent still quiet values F fin
-    h =
-    listed_serve_works tells w V b sound s unsent quiet F port connections listed values broken r fin h.works
-works tells (task.Show it) w V b sound s broken r unread unsent still quiet values F fin h =
-    show_works tells w V b sound s unsent quiet F it broken r fin h.works
+works at (task.Batch who now digits) w V b sound s broken r unread unsent still quiet values F fin h =
+    batch_works at.tells who now digits values.0 values.1 w V b s F r unread unsent quiet h.works
+works at (task.Pipe now digits) w V b sound s broken r unread unsent still quiet values F fin h =
+    pipe_works at.tells now digits w V b s F r unread unsent still quiet h.works
+works at (task.Serve port connections lists) w V b sound s broken r unread unsent still quiet values F fin h =
+    listed_serve_works at w V b sound s unsent quiet F port connections lists values broken r fin h.works
+works at (task.Show it) w V b sound s broken r unread unsent still quiet values F fin h =
+    show_works at.tells w V b sound s unsent quiet F it broken r fin h.works
 
 -- who finds no more finds what was found
 finds_less : (image next : Image) (Are : Trees → Type 0)
@@ -321,7 +323,7 @@ module _ {D : Type 0} {g : Ghosts D} (world : World) (image next : Image) (momen
         (quiet : unsent → IsQuiet s) (fin : r.ending ≡ ending.Done → result ≡ Ok outcome.Done)
         (free : (why : FileFault) → r.ending ≡ ending.NotOpened why → ⊥)
         (on : WorksOn (world.holds path) left
-        (λ p broken. Does world.tells t p broken result unread unsent s)) where
+        (λ p broken. Does (outside_in world) t p broken result unread unsent s)) where
       abbrev conn : Held (FileStore D g)
       conn = on.opened
 
@@ -349,7 +351,8 @@ module _ {D : Type 0} {g : Ghosts D} (world : World) (image next : Image) (momen
           → (it : Comes V c r) × Leads V c r it next
       on_one V c W is sound held holds =
           work_on V c W is held w
-          (works world.tells t w W (may.0, (holds, sound)) sound s on.broken result unread unsent still quiet
+          (works (outside_in world) t w W (may.0, (holds, sound)) sound s on.broken result unread unsent
+          still quiet
           values
           (r.ending ≡ ending.Done) fin on.done)
           free
@@ -385,7 +388,7 @@ module _ {D : Type 0} {g : Ghosts D} (world : World) (image next : Image) (momen
     on_some unread unsent still quiet h = by_ending end refl h
       where
         by_ending : (e : Ending) → end ≡ e
-            → DoesOnFile world.tells (world.holds path) left t e unread unsent s → IsFrom image r next
+            → DoesOnFile (outside_in world) (world.holds path) left t e unread unsent s → IsFrom image r next
         by_ending ending.Done is h = worked (Ok outcome.Done) unread unsent still quiet (λ _. refl)
             (λ why d. absurd (cc (d, ends, is))) h
         by_ending ending.Version is h = absurd h
@@ -472,17 +475,18 @@ module _ {D : Type 0} {g : Ghosts D} (world : World) (image next : Image) (momen
       (λ fault is. absurd (free.0 fault is)) free.1
       (subst (λ l. Leaves image l next) none leaves)
 
-pub each_is_run : {D R W E K P : Type 0} (g : Ghosts D) (remaining : R → Known) (contents : W → Known)
-    (said : E → Known) (tells : K → Turns) (holds : P → List ℕ → Image → Type 0)
-    (lacks refuses : P → List ℕ → Type 0) (says : P → List ℕ → List ℕ → Type 0)
-    (logs : P → List ℕ → Bool → Type 0)
-    → EveryRunIsOne g remaining contents said tells holds lacks refuses says logs
-each_is_run g remaining contents said tells holds lacks refuses says logs image next left words status time
-    paths moments links i i' o told o' e e' so h at leaves =
+pub each_is_run : {D R W E K X P : Type 0} (g : Ghosts D) (remaining : R → Known) (contents : W → Known)
+    (said : E → Known) (tells : K → Turns) (looks : X → List ℕ → Looks)
+    (holds : P → List ℕ → Image → Type 0) (lacks refuses : P → List ℕ → Type 0)
+    (says : P → List ℕ → List ℕ → Type 0) (logs : P → List ℕ → Bool → Type 0)
+    → EveryRunIsOne g remaining contents said tells looks holds lacks refuses says logs
+each_is_run g remaining contents said tells looks holds lacks refuses says logs image next left words status
+    time desk paths moments turns i i' o told o' e e' so h at leaves =
     let world : World =
-    world_of (tells time) (holds paths) (lacks paths) (refuses paths) (says paths) (logs paths) in
+    world_of (tells time) (looks desk) (holds paths) (lacks paths) (refuses paths) (says paths)
+    (logs paths) in
     all world image next moments so left words h.ending
-    (with_links (streams remaining i i' contents o told) links) (i' ≡ i) (told ≡ o)
+    (with_turns (streams remaining i i' contents o told) turns) (i' ≡ i) (told ≡ o)
     (λ same. subst (λ u. Consumes (remaining i.inner) (remaining u.inner) []) (sym same)
     (consumes_nothing (remaining i.inner)))
     (λ same. subst (λ u. Appends (contents o.inner) (contents u.inner) []) (sym same)

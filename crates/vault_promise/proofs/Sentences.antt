@@ -24,7 +24,8 @@ use Rattle.vault_engine.specs.Asking.{Asked, Pair, Wanted, vault_after}
 use Rattle.vault_recover.specs.Histories.{GivenIsWithin, IsHistory, RequestsAnswerOnce, Step, answers_number}
 use Rattle.vault_recover.specs.Histories.{how_many, last, leaves_number}
 use Rattle.vault_listen.specs.Live.{Turns}
-use Rattle.vault_listen.specs.Peers.{Link}
+use Rattle.vault_live.specs.Turns.{Turn}
+use Rattle.vault_live.specs.Turns.Turn.{Lost, Served, Attended}
 use Rattle.vault_jobs.specs.Streams.{Streams}
 use Rattle.vault_jobs.specs.declared.task.Task.{Task}
 use Rattle.vault_jobs.specs.declared.task.Task.TheVariants as task
@@ -46,9 +47,9 @@ use Rattle.vault_promise.proofs.WentOut.{EachOf, went_out}
 use Rattle.vault_promise.specs.DueNumbers.{EachIsDue, FaultsTellNoNumber, OnlyDueIsGiven}
 use Rattle.vault_promise.specs.Sentences.{CountsAreWithin, RequestsAnswerOnceEver, SentencesHoldTogether}
 use Rattle.vault_promise.specs.Sentences.{AllSpared, AsksTask, MovesKeep, MovesKeepTheVault, StopsAreSpared}
-use Rattle.vault_promise.specs.Sentences.{AnswersAreKept, AreDue, AreDueLinks, AreDueTexts, AreWhole}
+use Rattle.vault_promise.specs.Sentences.{AnswersAreKept, AreDue, AreDueTurns, AreDueTexts, AreWhole}
 use Rattle.vault_promise.specs.Sentences.{ChangesAreWhole, DidWhole, DoneIsDone, GivesDue, IsKept, Kept}
-use Rattle.vault_promise.specs.Sentences.{LeadsTo, LinksTell, NeverShared, NoneElse, NonePasses}
+use Rattle.vault_promise.specs.Sentences.{LeadsTo, TurnsTell, NeverShared, NoneElse, NonePasses}
 use Rattle.vault_promise.specs.Sentences.{NumbersAreCounted, NumbersGoToNobodyElse, NumbersStayApart, Steps}
 use Rattle.vault_promise.specs.Sentences.{TextsTell, TokensYield, WentOut, given_in, left_by}
 use Rattle.vault_promise.specs.SoundHistories.{HistoriesLast}
@@ -135,12 +136,13 @@ module _ (due : OnlyDueIsGiven) (texts : EachIsDue) (faults : FaultsTellNoNumber
     λ e is number close reads. faults e number close reads,
   )
 
-  due_links : (tells : Turns) (W : Content) (xs : List (Option Link)) (it : LinksTell tells W xs GivesDue)
-      → AreDueLinks tells W xs it
-  due_links tells W [] it = tt
-  due_links tells W (None ∷ xs) it = due_links tells W xs it
-  due_links tells W (Some x ∷ xs) (it, all) =
-      (due_texts tells None None W (streams_of x) it, due_links tells (vault_after W it.exchanges) xs all)
+  due_turns : (tells : Turns) (W : Content) (ts : List Turn) (it : TurnsTell tells W ts GivesDue)
+      → AreDueTurns tells W ts it
+  due_turns tells W [] it = tt
+  due_turns tells W (Lost ∷ ts) it = due_turns tells W ts it
+  due_turns tells W (Served x ∷ ts) (it, all) =
+      (due_texts tells None None W (streams_of x) it, due_turns tells (vault_after W it.exchanges) ts all)
+  due_turns tells W (Attended cs news ∷ ts) it = due_turns tells (run cs W) ts it
 
   are_due : (tells : Turns) (t : Task) (W : Content) (cs : List Command) (s : Streams)
       (it : WentOut tells t W cs s GivesDue) → AreDue tells t W cs s it
@@ -155,10 +157,8 @@ module _ (due : OnlyDueIsGiven) (texts : EachIsDue) (faults : FaultsTellNoNumber
       (in_all (Asks who) first more row (subst (All (Asks who)) is it.asked))
       gives.caller gives.merchant gives.token gives.now (wanted ∙ ap Ok gives.asks)
   are_due tells (task.Pipe now digits) W cs s it = due_texts tells now digits W s it
-  are_due tells (task.Serve port connections None) W cs s it = due_links tells W s.links it
-  are_due tells (task.Serve port connections (Some list)) W cs s (inl none) = tt
-  are_due tells (task.Serve port connections (Some list)) W cs s (inr (done, it)) =
-      due_links tells _ s.links it
+  are_due tells (task.Serve port connections lists) W cs s (inl none) = tt
+  are_due tells (task.Serve port connections lists) W cs s (inr (done, it)) = due_turns tells _ s.turns it
   are_due tells (task.Show it) W cs s shown = tt
 
   none_else : (V : Content) (c : Option Command) (rs : List Run) (end : Image) (come : Come V c rs end)

@@ -1,6 +1,6 @@
 -- Answers stand in later runs.
-use Rattle.std.proofs.Common.{◌≡◌, ℕ, List, [], ◌∷◌, ◌++◌, Option, Some, None, inl, inr}
-use Rattle.std.proofs.Common.{refl, sym, ap, subst, ◌∙◌, append-nil, append_assoc, true}
+use Rattle.std.proofs.Common.{◌≡◌, ℕ, List, [], ◌∷◌, ◌++◌, Option, None, inl, inr}
+use Rattle.std.proofs.Common.{refl, sym, ap, subst, ◌∙◌, append-nil, append_assoc}
 use Rattle.std.proofs.Math.Logic.{∥∥₁_map}
 use Rattle.sqlite_wal.specs.Recovery.{Image}
 use Rattle.vault_core.specs.Keys.{Bytes}
@@ -16,8 +16,10 @@ use Rattle.vault_core.specs.declared.reply.Reply.TheVariants.{Token}
 use Rattle.vault_engine.specs.Asking.{Asked, commands_in, commands_of}
 use Rattle.vault_recover.specs.Histories.{Answered, IsHistory, Step, last}
 use Rattle.vault_listen.specs.Live.{Turns}
-use Rattle.vault_listen.specs.Peers.{Link}
-use Rattle.vault_changes.specs.Changes.{changes_at, rights_of}
+use Rattle.vault_live.specs.Turns.{Turn}
+use Rattle.vault_live.specs.Turns.Turn.{Lost, Served, Attended}
+use Rattle.vault_live.specs.Turns.{Asking}
+use Rattle.vault_jobs.specs.Lists.{asked_of, begin_of}
 use Rattle.vault_jobs.specs.Streams.{Streams}
 use Rattle.vault_jobs.specs.declared.task.Task.{Task}
 use Rattle.vault_jobs.specs.declared.task.Task.TheVariants as task
@@ -27,8 +29,8 @@ use Rattle.vault_promise.proofs.PipedMessages.{as_run, commands-append, run_appe
 use Rattle.vault_promise.specs.SoundHistories.{HistoriesLast}
 use Rattle.vault_promise.specs.Runs.{Come, Run, RunsComeToHistories, answers, history, opening, told_by}
 use Rattle.vault_promise.specs.Standing.{AnsweredIn, Answers, AnswersStand, Stand, TellsStanding}
-use Rattle.vault_promise.specs.Standing.{IsRepliedIn, LinksStand, TextsStand, TokensStand}
-use Rattle.vault_promise.specs.Told.{AllAnswer, AreAnswered, Tells, streams_of}
+use Rattle.vault_promise.specs.Standing.{IsRepliedIn, TurnsStand, TextsStand, TokensStand}
+use Rattle.vault_promise.specs.Told.{AllAnswer, AreAnswered, Tells, seen, streams_of}
 
 abbrev Steps : Type 0
 Steps = List (Step × Content)
@@ -153,14 +155,14 @@ later_stand W cs first more Later is stand = λ a again token expires y (front, 
       subst (λ U. reply U (command_of a) ≡ Token token expires) (sym (run_append first front W)) replied,
     )
 
--- and so those of connections
-links_stand : (tells : Turns) (xs : List (Option Link)) (W : Content) (cs : List Command)
-    (Later : Command → Reply → Type 0) → TokensStand (AnswersIn W cs) Later → AllAnswer tells W xs cs
-    → LinksStand tells W xs Later
+-- and so those of turns
+turns_stand : (tells : Turns) (asks : Asking) (ts : List Turn) (W : Content) (cs : List Command)
+    (Later : Command → Reply → Type 0) → TokensStand (AnswersIn W cs) Later → AllAnswer tells asks W ts cs
+    → TurnsStand tells W ts Later
 unfolding messages_stand
-links_stand tells [] W cs Later stand told = tt
-links_stand tells (None ∷ xs) W cs Later stand told = links_stand tells xs W cs Later stand told
-links_stand tells (Some x ∷ xs) W cs Later stand (first, more, is, here, rest) = (
+turns_stand tells asks [] W cs Later stand told = tt
+turns_stand tells asks (Lost ∷ ts) W cs Later stand told = turns_stand tells asks ts W cs Later stand told
+turns_stand tells asks (Served x ∷ ts) W cs Later stand (first, more, is, here, rest) = (
   messages_stand tells None None W first (streams_of x) Later
       (λ a again token expires y (front, behind, same, replied).
       stand a again token expires y (
@@ -169,9 +171,11 @@ links_stand tells (Some x ∷ xs) W cs Later stand (first, more, is, here, rest)
         is ∙ ap (λ ds. ds ++ more) same ∙ append_assoc front (command_of a ∷ behind) more,
         replied,
       )) here,
-  subst (λ U. LinksStand tells U xs Later) (ap (λ ds. run ds W) here.1 ∙ sym (as_run W here.0))
-      (links_stand tells xs (run first W) more Later (later_stand W cs first more Later is stand) rest),
+  subst (λ U. TurnsStand tells U ts Later) (ap (λ ds. run ds W) here.1 ∙ sym (as_run W here.0))
+      (turns_stand tells asks ts (run first W) more Later (later_stand W cs first more Later is stand) rest),
 )
+turns_stand tells asks (Attended first news ∷ ts) W cs Later stand (asked, (more, is, rest)) =
+    turns_stand tells asks ts (run first W) more Later (later_stand W cs first more Later is stand) rest
 
 -- what went out of a task stands
 texts_stand : (tells : Turns) (t : Task) (W : Content) (cs : List Command) (s : Streams)
@@ -186,14 +190,12 @@ texts_stand tells (task.Batch who now digits) W cs s Later stand (xs, asked, are
 }
 texts_stand tells (task.Pipe now digits) W cs s Later stand told =
     messages_stand tells now digits W cs s Later stand told
-texts_stand tells (task.Serve port connections None) W cs s Later stand told =
-    links_stand tells s.links W cs Later stand told
-texts_stand tells (task.Serve port connections (Some it)) W cs s Later stand (inl (k, is, none)) =
-    subst (λ xs. LinksStand tells (run (changes_at true it.now it.rights.items (rights_of W)) W) xs Later)
-    (sym none) tt
-texts_stand tells (task.Serve port connections (Some it)) W cs s Later stand (inr (more, is, done, told)) =
-    let changes : List Command = changes_at true it.now it.rights.items (rights_of W) in
-    links_stand tells s.links (run changes W) more Later (later_stand W cs changes more Later is stand) told
+texts_stand tells (task.Serve port connections lists) W cs s Later stand (inl (k, is, none)) =
+    subst (λ ts. TurnsStand tells (run (begin_of lists W) W) ts Later) (sym none) tt
+texts_stand tells (task.Serve port connections lists) W cs s Later stand (inr (more, is, done, told)) =
+    let first : List Command = begin_of lists W in
+    turns_stand tells (asked_of (seen tells) lists) s.turns (run first W) more Later
+    (later_stand W cs first more Later is stand) told
 texts_stand tells t W cs s Later stand told = tt
 
 pub stand_in : HistoriesLast → (V : Content) (c : Option Command) (rs : List Run) (end : Image)

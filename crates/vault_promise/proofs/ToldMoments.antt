@@ -1,5 +1,5 @@
 -- What is answered is answered at moments that were told.
-use Rattle.std.proofs.Common.{◌≡◌, ◌+◌, ℕ, List, [], ◌∷◌, ◌++◌, Option, Some, None, inl, inr, sym, ap, subst}
+use Rattle.std.proofs.Common.{◌≡◌, ◌+◌, ℕ, List, [], ◌∷◌, ◌++◌, Option, None, inl, inr, sym, ap, subst}
 use Rattle.std.proofs.Common.{◌∙◌, append-nil, append_assoc, arith, length, suc}
 use Rattle.std.proofs.Math.Logic.{∥∥₁_map}
 use Rattle.sqlite_wal.specs.Recovery.{Image}
@@ -9,13 +9,14 @@ use Rattle.vault_core.specs.declared.command.Command.{Command}
 use Rattle.vault_engine.specs.Answered.{pairs_of}
 use Rattle.vault_engine.specs.Asking.{Asked, vault_after}
 use Rattle.vault_listen.specs.Live.{AreGiven, AreTold, Turns}
-use Rattle.vault_listen.specs.Peers.{Link}
+use Rattle.vault_live.specs.Turns.{Turn}
+use Rattle.vault_live.specs.Turns.Turn.{Lost, Served, Attended}
 use Rattle.vault_jobs.specs.Streams.{Streams}
 use Rattle.vault_jobs.specs.declared.task.Task.{Task}
 use Rattle.vault_jobs.specs.declared.task.Task.TheVariants as task
 use Rattle.vault_promise.proofs.WentOut.{went_out}
-use Rattle.vault_promise.specs.Sentences.{AllTold, EachTold, IsAnything, LinksTold, MomentsAreTold, TaskTold}
-use Rattle.vault_promise.specs.Sentences.{LinksTell, WentOut}
+use Rattle.vault_promise.specs.Sentences.{AllTold, EachTold, IsAnything, MomentsAreTold, TaskTold, TurnsTold}
+use Rattle.vault_promise.specs.Sentences.{TurnsTell, WentOut}
 use Rattle.vault_promise.specs.Runs.{Come, Run, RunsComeToHistories, told_by}
 
 told_at : {X : Type 0} (tells : Turns) (turn : ℕ) (first more : List (Asked X)) (x : Asked X)
@@ -34,14 +35,15 @@ each_told tells now digits xs rest given = λ free first more x is.
     (ap (λ ys. ys ++ rest) is ∙ append_assoc first (x ∷ more) rest) (given.told free)) in
     let same : 0 + length first ≡ length first = omega arith in subst (λ n. tells n x.pair.0) same told
 
-links_told : (tells : Turns) (W : Content) (xs : List (Option Link)) (it : LinksTell tells W xs IsAnything)
-    → LinksTold tells W xs it
-links_told tells W [] it = tt
-links_told tells W (None ∷ xs) it = links_told tells W xs it
-links_told tells W (Some x ∷ xs) (it, all) = (
+turns_told : (tells : Turns) (W : Content) (ts : List Turn) (it : TurnsTell tells W ts IsAnything)
+    → TurnsTold tells W ts it
+turns_told tells W [] it = tt
+turns_told tells W (Lost ∷ ts) it = turns_told tells W ts it
+turns_told tells W (Served x ∷ ts) (it, all) = (
   each_told tells None None it.exchanges it.heard.more it.heard.given,
-  links_told tells (vault_after W it.exchanges) xs all,
+  turns_told tells (vault_after W it.exchanges) ts all,
 )
+turns_told tells W (Attended cs news ∷ ts) it = turns_told tells (run cs W) ts it
 
 task_told : (tells : Turns) (t : Task) (W : Content) (cs : List Command) (s : Streams)
     (it : WentOut tells t W cs s IsAnything) → TaskTold tells t W cs s it
@@ -54,10 +56,8 @@ task_told tells (task.Batch who now digits) W cs s it = each_told tells now digi
     (subst (λ xs. AreGiven tells now digits (pairs_of xs)) (sym (append-nil it.rows)) it.read.given)
 task_told tells (task.Pipe now digits) W cs s it =
     each_told tells now digits it.exchanges it.heard.more it.heard.given
-task_told tells (task.Serve port connections None) W cs s it = links_told tells W s.links it
-task_told tells (task.Serve port connections (Some list)) W cs s (inl none) = tt
-task_told tells (task.Serve port connections (Some list)) W cs s (inr (done, it)) =
-    links_told tells _ s.links it
+task_told tells (task.Serve port connections lists) W cs s (inl none) = tt
+task_told tells (task.Serve port connections lists) W cs s (inr (done, it)) = turns_told tells _ s.turns it
 task_told tells (task.Show it) W cs s shown = tt
 
 pub all_told : (V : Content) (c : Option Command) (rs : List Run) (end : Image) (come : Come V c rs end)

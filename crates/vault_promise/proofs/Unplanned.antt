@@ -1,13 +1,17 @@
 -- What words ask for in some world, they ask for whatever may be told.
-use Rattle.std.proofs.Common.{◌≡◌, ℕ, List, Option, Some, None, inl, inr, sym, refl, Bor, subst}
-use Rattle.std.specs.Prelude.{unwrap_or}
+use Rattle.std.proofs.Common.{◌≡◌, ◌⊎◌, ℕ, List, Option, Some, None, inl, inr, sym, refl, Bor, subst}
 use Rattle.sqlite_wal.specs.Recovery.{Image}
 use Rattle.vault_jobs.specs.Moments.{IsMomentOf}
 use Rattle.vault_jobs.specs.declared.task.Task.{Task}
 use Rattle.clap.specs.Words.{Text}
 use Rattle.vault_words.specs.declared.jobs.Job.{Job}
 use Rattle.vault_words.specs.declared.jobs.Job.TheVariants as job
-use Rattle.vault_app.specs.Commands.Serve.{IsRefusedAt, IsServeOf, without_end}
+use Rattle.vault_merchants.specs.Listed.{Wanted}
+use Rattle.vault_rights.specs.Named.{Row}
+use Rattle.vault_jobs.specs.declared.lists.ListFile.{ListFile}
+use Rattle.vault_app.specs.Followed.{IsFollowed, IsRefusedAt, RefusesMerchants, RefusesRights}
+use Rattle.vault_app.specs.Merchants.{AreMerchantsIn}
+use Rattle.vault_app.specs.Rights.{IsListedIn}
 use Rattle.vault_app.specs.Plans.{EndsBefore, IsPlanOf, IsTaskOf, saying}
 use Rattle.vault_app.specs.Saying.{IsBeside, IsPlanFor, IsTaskFor, OfCheck, OfMove, OfTask, OfTrial, Purpose}
 use Rattle.vault_app.specs.Saying.{path_of}
@@ -37,12 +41,17 @@ module _ (world : World) (moments : Moments)
       → IsMomentOf (told_by moments) fixed now
   so_moment fixed now is = (is.0, λ free. so 0 now (is.1 free))
 
-  so_serve : (port connections : ℕ) (o : Option (Bor (List ℕ))) (t : Task)
-      → IsServeOf world port connections o t → IsServeOf (at_moments moments) port connections o t
-  so_serve port connections None t same = same
-  so_serve port connections (Some path) t
-      (rows, now, (text, document, said, is, proper, listed), moment, same) =
-      (rows, now, (text, document, tt, is, proper, listed), so_moment None now moment, same)
+  so_rights : (path : Option (Bor (List ℕ))) (o : Option (ListFile Row))
+      → IsFollowed IsListedIn world path o → IsFollowed IsListedIn (at_moments moments) path o
+  so_rights None o same = same
+  so_rights (Some path) o (it, same, (document, said, is, proper, listed), moment, of) =
+      (it, same, (document, tt, is, proper, listed), so_moment None it.now moment, of)
+
+  so_merchants : (path : Option (Bor (List ℕ))) (o : Option (ListFile Wanted))
+      → IsFollowed AreMerchantsIn world path o → IsFollowed AreMerchantsIn (at_moments moments) path o
+  so_merchants None o same = same
+  so_merchants (Some path) o (it, same, (said, listed), moment, of) =
+      (it, same, (tt, listed), so_moment None it.now moment, of)
 
   so_task : (job : Job) (t : Task) → IsTaskOf world job t → IsTaskOf (at_moments moments) job t
   so_task (job.Merchant j) t (name, (now, moment, same)) =
@@ -51,11 +60,16 @@ module _ (world : World) (moments : Moments)
       (names, (right, now, word, so_moment j.given.now now moment, same))
   so_task (job.Withdraw j) t (names, (right, now, word, moment, same)) =
       (names, (right, now, word, so_moment j.now now moment, same))
-  so_task (job.Rights j) t (rows, now, (text, document, said, is, proper, listed), moment, same) =
-      (rows, now, (text, document, tt, is, proper, listed), so_moment j.now now moment, same)
-  so_task (job.Merchants j) t (rows, now, (text, said, listed), moment, same) =
-      (rows, now, (text, tt, listed), so_moment j.now now moment, same)
-  so_task (job.Serve j) t is = so_serve j.port (unwrap_or j.connections without_end) j.rights t is
+  so_task (job.Rights j) t (rows, now, (text, (document, said, is, proper, listed)), moment, same) =
+      (rows, now, (text, (document, tt, is, proper, listed)), so_moment j.now now moment, same)
+  so_task (job.Merchants j) t (rows, now, (text, (said, listed)), moment, same) =
+      (rows, now, (text, (tt, listed)), so_moment j.now now moment, same)
+  so_task (job.Serve j) t (lists, merchants, rights, same) = (
+    lists,
+    so_merchants j.merchants lists.merchants merchants,
+    so_rights j.rights lists.rights rights,
+    same,
+  )
   so_task (job.Sweep j) t (names, (who, now, caller, merchant, moment, same)) =
       (names, (who, now, caller, merchant, so_moment j.now now moment, same))
   so_task job t is = is
@@ -78,11 +92,28 @@ any_refusal : (world : World) (job : Job) (n : ℕ) → (saying job).refused wor
 any_refusal world (job.Rights j) n (text, fault, said, is, same, other) = (text, fault, tt, is, same, other)
 any_refusal world (job.Merchants j) n (text, fault, said, is, same, other) =
     (text, fault, tt, is, same, other)
-any_refusal world (job.Serve j) n h = any_at j.rights h
+any_refusal world (job.Serve j) n h = any_list h
   where
-    any_at : (o : Option (Bor (List ℕ))) → IsRefusedAt world o n → IsRefusedAt anything o n
-    any_at None h = h
-    any_at (Some path) (text, fault, said, is, same, other) = (text, fault, tt, is, same, other)
+    any_rights : (o : Option (Bor (List ℕ))) → IsRefusedAt RefusesRights world o n
+        → IsRefusedAt RefusesRights anything o n
+    any_rights None h = h
+    any_rights (Some path) (inl (text, fault, said, is, same, other)) =
+        inl (text, fault, tt, is, same, other)
+    any_rights (Some path) (inr (text, (document, said, is, proper, listed), bare, same)) =
+        inr (text, (document, tt, is, proper, listed), bare, same)
+
+    any_merchants : (o : Option (Bor (List ℕ))) → IsRefusedAt RefusesMerchants world o n
+        → IsRefusedAt RefusesMerchants anything o n
+    any_merchants None h = h
+    any_merchants (Some path) (inl (text, fault, said, is, same, other)) =
+        inl (text, fault, tt, is, same, other)
+    any_merchants (Some path) (inr (text, (said, listed), bare, same)) =
+        inr (text, (tt, listed), bare, same)
+
+    any_list : IsRefusedAt RefusesMerchants world j.merchants n ⊎ IsRefusedAt RefusesRights world j.rights n
+        → IsRefusedAt RefusesMerchants anything j.merchants n ⊎ IsRefusedAt RefusesRights anything j.rights n
+    any_list (inl h) = inl (any_merchants j.merchants h)
+    any_list (inr h) = inr (any_rights j.rights h)
 any_refusal world job n h = h
 
 pub any_early : (world : World) (job : Job) (end : Ending) → EndsBefore world job end

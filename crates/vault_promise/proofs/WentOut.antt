@@ -1,20 +1,22 @@
 -- What went out of a task, by the commands that it answered.
-use Rattle.std.proofs.Common.{◌≡◌, ℕ, List, [], ◌∷◌, ◌++◌, Option, Some, None}
-use Rattle.std.proofs.Common.{inl, inr, sym, ap, subst, ◌∙◌, append_assoc, true, length}
+use Rattle.std.proofs.Common.{◌≡◌, ℕ, List, [], ◌∷◌, ◌++◌, Option, None}
+use Rattle.std.proofs.Common.{inl, inr, sym, ap, subst, ◌∙◌, append_assoc, length}
 use Rattle.std.proofs.Math.Seq.{take-length}
 use Rattle.vault_core.specs.Runs.{run}
 use Rattle.vault_core.specs.Vault.{Vault as Content}
 use Rattle.vault_core.specs.declared.command.Command.{Command}
 use Rattle.vault_engine.specs.Asking.{Asked, commands_in, commands_of}
 use Rattle.vault_listen.specs.Live.{Turns}
-use Rattle.vault_listen.specs.Peers.{Link}
-use Rattle.vault_changes.specs.Changes.{changes_at, rights_of}
+use Rattle.vault_live.specs.Turns.{Turn}
+use Rattle.vault_live.specs.Turns.Turn.{Lost, Served, Attended}
+use Rattle.vault_live.specs.Turns.{Asking}
+use Rattle.vault_jobs.specs.Lists.{asked_of, begin_of}
 use Rattle.vault_jobs.specs.Streams.{Streams}
 use Rattle.vault_jobs.specs.declared.task.Task.{Task}
 use Rattle.vault_jobs.specs.declared.task.Task.TheVariants as task
 use Rattle.vault_promise.proofs.PipedMessages.{as_run, commands-append, run_append}
-use Rattle.vault_promise.specs.Sentences.{EachAsked, LinksTell, TextsTell, WentOut}
-use Rattle.vault_promise.specs.Told.{AllAnswer, AreAnswered, AreFirst, Tells, streams_of}
+use Rattle.vault_promise.specs.Sentences.{EachAsked, TextsTell, TurnsTell, WentOut}
+use Rattle.vault_promise.specs.Told.{AllAnswer, AreAnswered, AreFirst, Tells, seen, streams_of}
 
 -- of each of these commands this is true, at the vault that those before it leave
 abbrev pub EachOf : Content → List Command → (Content → Command → Type 0) → Type 0
@@ -54,16 +56,19 @@ texts_tell tells now digits W cs s Is each (xs, are, heard, (fault, sent, went))
   each = each_asked W cs xs Is each are;
 }
 
-links_tell : (tells : Turns) (xs : List (Option Link)) (W : Content) (cs : List Command)
-    (Is : Content → Command → Type 0) → EachOf W cs Is → AllAnswer tells W xs cs → LinksTell tells W xs Is
+turns_tell : (tells : Turns) (asks : Asking) (ts : List Turn) (W : Content) (cs : List Command)
+    (Is : Content → Command → Type 0) → EachOf W cs Is → AllAnswer tells asks W ts cs
+    → TurnsTell tells W ts Is
 unfolding texts_tell
-links_tell tells [] W cs Is each told = tt
-links_tell tells (None ∷ xs) W cs Is each told = links_tell tells xs W cs Is each told
-links_tell tells (Some x ∷ xs) W cs Is each (first, more, is, here, rest) = (
+turns_tell tells asks [] W cs Is each told = tt
+turns_tell tells asks (Lost ∷ ts) W cs Is each told = turns_tell tells asks ts W cs Is each told
+turns_tell tells asks (Served x ∷ ts) W cs Is each (first, more, is, here, rest) = (
   texts_tell tells None None W first (streams_of x) Is (each_first W cs first more Is is each) here,
-  subst (λ U. LinksTell tells U xs Is) (ap (λ ds. run ds W) here.1 ∙ sym (as_run W here.0))
-      (links_tell tells xs (run first W) more Is (each_later W cs first more Is is each) rest),
+  subst (λ U. TurnsTell tells U ts Is) (ap (λ ds. run ds W) here.1 ∙ sym (as_run W here.0))
+      (turns_tell tells asks ts (run first W) more Is (each_later W cs first more Is is each) rest),
 )
+turns_tell tells asks (Attended first news ∷ ts) W cs Is each (asked, (more, is, rest)) =
+    turns_tell tells asks ts (run first W) more Is (each_later W cs first more Is is each) rest
 
 -- all are the first so many
 all_first : (cs all : List Command) → cs ≡ all → AreFirst cs all
@@ -97,13 +102,12 @@ went_out tells (task.Batch who now digits) W cs s Is each (xs, asked, are, read,
   each = each_asked W cs xs Is each are;
 }
 went_out tells (task.Pipe now digits) W cs s Is each told = texts_tell tells now digits W cs s Is each told
-went_out tells (task.Serve port connections None) W cs s Is each told =
-    links_tell tells s.links W cs Is each told
-went_out tells (task.Serve port connections (Some it)) W cs s Is each (inl (k, is, none)) = inl none
-went_out tells (task.Serve port connections (Some it)) W cs s Is each (inr (more, is, done, told)) =
-    let changes : List Command = changes_at true it.now it.rights.items (rights_of W) in
+went_out tells (task.Serve port connections lists) W cs s Is each (inl (k, is, none)) = inl none
+went_out tells (task.Serve port connections lists) W cs s Is each (inr (more, is, done, told)) =
+    let first : List Command = begin_of lists W in
     inr (
       done,
-      links_tell tells s.links (run changes W) more Is (each_later W cs changes more Is is each) told,
+      turns_tell tells (asked_of (seen tells) lists) s.turns (run first W) more Is
+          (each_later W cs first more Is is each) told,
     )
 went_out tells (task.Show it) W cs s Is each told = told

@@ -7,6 +7,7 @@ use Rattle.sqlite_disk.specs.declared.memory.Memory.{Memory}
 use Rattle.sqlite_wal.specs.Recovery.{Image}
 use Rattle.vault_app.specs.World.{World, world_of}
 use Rattle.vault_listen.specs.Live.{Turns}
+use Rattle.vault_live.specs.Following.{Looks}
 
 -- the bytes of the files
 abbrev pub bytes_in : Files Memory → Image
@@ -20,8 +21,9 @@ MayBeLeftOf m = MayLeave false m.bytes.items m.synced.items (steps_of m.steps.it
 abbrev pub MayBeLeftIn : Files Memory → Image → Type 0
 MayBeLeftIn files image = MayBeLeftOf files.log image.log × MayBeLeftOf files.db image.db
 
--- At every path the files hold these bytes, no path lacks them, and nothing else is told but moments.
-abbrev pub memory_world : Turns → Image → World
-memory_world tells image =
-    world_of tells (λ path found. found ≡ image) (λ path. ⊥) (λ path. Unit {0}) (λ path text. Unit {0})
+-- At every path the files hold these bytes, no path lacks them, and nothing else is told but moments and what
+-- was looked at.
+abbrev pub memory_world : Turns → (List ℕ → Looks) → Image → World
+memory_world tells looks image =
+    world_of tells looks (λ path found. found ≡ image) (λ path. ⊥) (λ path. Unit {0}) (λ path text. Unit {0})
     (λ path log. Unit {0})

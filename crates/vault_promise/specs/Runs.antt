@@ -23,9 +23,10 @@ use Rattle.vault_schema.specs.Stands.{lookups_of}
 use Rattle.vault_steps.specs.Entries.{AreSome}
 use Rattle.vault_recover.specs.Histories.{Answered, IsHistory, Reopened, Step, Undecided}
 use Rattle.vault_listen.specs.Live.{Turns}
-use Rattle.vault_listen.specs.Peers.{Link}
+use Rattle.vault_live.specs.Following.{Looks}
+use Rattle.vault_live.specs.Turns.{Turn}
 use Rattle.vault_wire.specs.declared.watched.Watched.{Watched}
-use Rattle.vault_jobs.specs.Streams.{Known, Streams, streams, with_links}
+use Rattle.vault_jobs.specs.Streams.{Known, Streams, streams, with_turns}
 use Rattle.vault_jobs.specs.declared.task.Task.{Task}
 use Rattle.vault_words.specs.Commands.{program_app}
 use Rattle.vault_words.specs.Jobs.{IsAsked}
@@ -53,7 +54,7 @@ abbrev pub at_moments : Moments → World
 at_moments moments = record anything { tells = told_by moments }
 
 -- a run: the bytes that the files had before it, its words, the moments that its clock may tell, how it
--- ended, and what came in and went out, with its connections, but for the line that says how it ended
+-- ended, and what came in and went out, with its turns, but for the line that says how it ended
 pub record Run : Type 0 where
   pub begins : Image
   pub words : List Text
@@ -190,20 +191,23 @@ IsFound words Holding = (job : Job) (path : List ℕ) → IsAsked program_app wo
 -- Whatever a run of the program does, by the clause `does` of `run`, in a world where the files at the path
 -- of its words hold these bytes, and its clock tells no other moments than these; and with whatever bytes the
 -- next one begins: it is a run up to these.
-module _ {D R W E K P : Type 0} (g : Ghosts D) (remaining : R → Known) (contents : W → Known)
-    (said : E → Known) (tells : K → Turns) (holds : P → List ℕ → Image → Type 0)
+module _ {D R W E K X P : Type 0} (g : Ghosts D) (remaining : R → Known) (contents : W → Known)
+    (said : E → Known) (tells : K → Turns) (looks : X → List ℕ → Looks)
+    (holds : P → List ℕ → Image → Type 0)
     (lacks refuses : P → List ℕ → Type 0) (says : P → List ℕ → List ℕ → Type 0)
     (logs : P → List ℕ → Bool → Type 0) where
   abbrev pub EveryRunIsOne : Type 0
   EveryRunIsOne =
       (image next : Image) (left : Option (FileStore D g)) (words : List Text) (status : ℕ) (time : K)
-      (paths : P) (moments : Moments) (links : List (Option Link)) (i i' : Watched R) (o told o' : Watched W)
+      (desk : X) (paths : P) (moments : Moments) (turns : List Turn) (i i' : Watched R)
+      (o told o' : Watched W)
       (e e' : Watched E) → ((turn now : ℕ) → tells time turn now → told_by moments turn now)
       → (it : RunsAs remaining contents said
-      (world_of (tells time) (holds paths) (lacks paths) (refuses paths) (says paths) (logs paths)) left words
-      status links i i' o told o' e e')
+      (world_of (tells time) (looks desk) (holds paths) (lacks paths) (refuses paths) (says paths)
+      (logs paths)) left words
+      status turns i i' o told o' e e')
       → IsFound words (λ path. holds paths path image) → Leaves image left next
-      → (let s : Streams = with_links (streams remaining i i' contents o told) links in
+      → (let s : Streams = with_turns (streams remaining i i' contents o told) turns in
       IsRun (record {
         begins = image;
         words = words;

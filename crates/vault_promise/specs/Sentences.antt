@@ -27,11 +27,13 @@ use Rattle.vault_wire.specs.declared.fault.WireFault.{WireFault}
 use Rattle.vault_wire.specs.Parts.{Parts}
 use Rattle.vault_engine.specs.Asking.{Asked, text_at, texts, vault_after}
 use Rattle.vault_listen.specs.Live.{Turns}
-use Rattle.vault_listen.specs.Peers.{Link}
+use Rattle.vault_live.specs.Turns.{Turn}
+use Rattle.vault_live.specs.Turns.Turn.{Lost, Served, Attended}
 use Rattle.vault_changes.specs.Changes.{changes_at, rights_of}
 use Rattle.vault_changes.specs.Grants.{AreDone, grants_at}
 use Rattle.vault_changes.specs.Settings.{settings_at}
 use Rattle.vault_store.specs.Listed.{merchant_rows}
+use Rattle.vault_jobs.specs.Lists.{begin_of}
 use Rattle.vault_jobs.specs.Listing.{shown_text}
 use Rattle.vault_jobs.specs.Ahead.{MaySweep}
 use Rattle.vault_jobs.specs.Streams.{Streams}
@@ -116,23 +118,23 @@ pub record LinesTell (tells : Turns) (who : Asker) (now : Option ℕ) (digits : 
   pub went : Appends s.sent_old s.sent_new (take sent (first_line ++ lines W rows))
   pub each : EachAsked W rows Is
 
--- what went out of connections: the texts of each, from the vault that those before it leave
-abbrev pub LinksTell : Turns → Content → List (Option Link) → (Content → Command → Type 0) → Type 0
-LinksTell tells W [] Is = Unit {0}
-LinksTell tells W (None ∷ xs) Is = LinksTell tells W xs Is
-LinksTell tells W (Some x ∷ xs) Is = (it : TextsTell tells None None W (streams_of x) Is)
-    × LinksTell tells (vault_after W it.exchanges) xs Is
+-- what went out of connections: the texts of each, from the vault that the turns before it leave
+abbrev pub TurnsTell : Turns → Content → List Turn → (Content → Command → Type 0) → Type 0
+TurnsTell tells W [] Is = Unit {0}
+TurnsTell tells W (Lost ∷ ts) Is = TurnsTell tells W ts Is
+TurnsTell tells W (Served x ∷ ts) Is = (it : TextsTell tells None None W (streams_of x) Is)
+    × TurnsTell tells (vault_after W it.exchanges) ts Is
+TurnsTell tells W (Attended cs news ∷ ts) Is = TurnsTell tells (run cs W) ts Is
 
 -- What went out of a task. A line of one that isn't asked message by message says that all is done; no
--- connection is answered before the rights are those of the list; a sweep purges dead tokens alone; and of a
+-- connection is answered before what the lists ask for is done; a sweep purges dead tokens alone; and of a
 -- list, it is the text of the vault.
 abbrev pub WentOut : Turns → Task → Content → List Command → Streams → (Content → Command → Type 0) → Type 0
 WentOut tells (Batch who now digits) W cs s Is = LinesTell tells who now digits W s Is
 WentOut tells (Pipe now digits) W cs s Is = TextsTell tells now digits W s Is
-WentOut tells (Serve port connections None) W cs s Is = LinksTell tells W s.links Is
-WentOut tells (Serve port connections (Some it)) W cs s Is =
-    (let changes = changes_at true it.now it.rights.items (rights_of W) in
-    (s.links ≡ []) ⊎ AreDone (length changes) changes W × LinksTell tells (run changes W) s.links Is)
+WentOut tells (Serve port connections lists) W cs s Is =
+    (let first = begin_of lists W in
+    (s.turns ≡ []) ⊎ AreDone (length first) first W × TurnsTell tells (run first W) s.turns Is)
 WentOut tells (Sweep who now giver) W cs s Is = (IsQuiet s ⊎ AllDone (Sweep who now giver) W cs)
     × ((tokens : List Bytes) × (cs ≡ purges_at who now tokens) × AreSwept who now tokens W
     × ((tokens ≡ []) ⊎ MaySweep giver W who.merchant now))
@@ -175,22 +177,22 @@ abbrev pub AreDueTexts : (tells : Turns) (now : Option ℕ) (digits : Option (Li
 AreDueTexts tells now digits W s it = TextsAreDue W it.exchanges × FaultIsNone it.fault
 
 -- and of connections
-abbrev pub AreDueLinks : (tells : Turns) (W : Content) (xs : List (Option Link))
-    → LinksTell tells W xs GivesDue → Type 0
-AreDueLinks tells W [] all = Unit {0}
-AreDueLinks tells W (None ∷ xs) all = AreDueLinks tells W xs all
-AreDueLinks tells W (Some x ∷ xs) (it, all) =
-    AreDueTexts tells None None W (streams_of x) it × AreDueLinks tells (vault_after W it.exchanges) xs all
+abbrev pub AreDueTurns : (tells : Turns) (W : Content) (ts : List Turn)
+    → TurnsTell tells W ts GivesDue → Type 0
+AreDueTurns tells W [] all = Unit {0}
+AreDueTurns tells W (Lost ∷ ts) all = AreDueTurns tells W ts all
+AreDueTurns tells W (Served x ∷ ts) (it, all) =
+    AreDueTexts tells None None W (streams_of x) it × AreDueTurns tells (vault_after W it.exchanges) ts all
+AreDueTurns tells W (Attended cs news ∷ ts) all = AreDueTurns tells (run cs W) ts all
 
 abbrev pub AreDue : (tells : Turns) (t : Task) (W : Content) (cs : List Command) (s : Streams)
     → WentOut tells t W cs s GivesDue → Type 0
 AreDue tells (Batch who now digits) W cs s it =
     EachAsked W it.rows (λ U x. (number : Bytes) → ¬ (reply U x ≡ Number number))
 AreDue tells (Pipe now digits) W cs s it = AreDueTexts tells now digits W s it
-AreDue tells (Serve port connections None) W cs s it = AreDueLinks tells W s.links it
-AreDue tells (Serve port connections (Some list)) W cs s (inl none) = Unit {0}
-AreDue tells (Serve port connections (Some list)) W cs s (inr (done, it)) =
-    AreDueLinks tells (run (changes_at true list.now list.rights.items (rights_of W)) W) s.links it
+AreDue tells (Serve port connections lists) W cs s (inl none) = Unit {0}
+AreDue tells (Serve port connections lists) W cs s (inr (done, it)) =
+    AreDueTurns tells (run (begin_of lists W) W) s.turns it
 AreDue tells t W cs s it = Unit {0}
 
 abbrev pub NoneElse : (V : Content) (c : Option Command) (rs : List Run) (end : Image) → Come V c rs end
@@ -221,22 +223,22 @@ EachTold tells now xs = now ≡ None → (first more : List (Asked _)) (it : Ask
 abbrev pub IsAnything : Content → Command → Type 0
 IsAnything W x = Unit {0}
 
--- so of each connection, whose turns are its own
-abbrev pub LinksTold : (tells : Turns) (W : Content) (xs : List (Option Link))
-    → LinksTell tells W xs IsAnything → Type 0
-LinksTold tells W [] all = Unit {0}
-LinksTold tells W (None ∷ xs) all = LinksTold tells W xs all
-LinksTold tells W (Some x ∷ xs) (it, all) =
-    EachTold tells None it.exchanges × LinksTold tells (vault_after W it.exchanges) xs all
+-- so of each connection, whose moments are its own
+abbrev pub TurnsTold : (tells : Turns) (W : Content) (ts : List Turn)
+    → TurnsTell tells W ts IsAnything → Type 0
+TurnsTold tells W [] all = Unit {0}
+TurnsTold tells W (Lost ∷ ts) all = TurnsTold tells W ts all
+TurnsTold tells W (Served x ∷ ts) (it, all) =
+    EachTold tells None it.exchanges × TurnsTold tells (vault_after W it.exchanges) ts all
+TurnsTold tells W (Attended cs news ∷ ts) all = TurnsTold tells (run cs W) ts all
 
 abbrev pub TaskTold : (tells : Turns) (t : Task) (W : Content) (cs : List Command) (s : Streams)
     → WentOut tells t W cs s IsAnything → Type 0
 TaskTold tells (Batch who now digits) W cs s it = EachTold tells now it.rows
 TaskTold tells (Pipe now digits) W cs s it = EachTold tells now it.exchanges
-TaskTold tells (Serve port connections None) W cs s it = LinksTold tells W s.links it
-TaskTold tells (Serve port connections (Some list)) W cs s (inl none) = Unit {0}
-TaskTold tells (Serve port connections (Some list)) W cs s (inr (done, it)) =
-    LinksTold tells (run (changes_at true list.now list.rights.items (rights_of W)) W) s.links it
+TaskTold tells (Serve port connections lists) W cs s (inl none) = Unit {0}
+TaskTold tells (Serve port connections lists) W cs s (inr (done, it)) =
+    TurnsTold tells (run (begin_of lists W) W) s.turns it
 TaskTold tells t W cs s it = Unit {0}
 
 abbrev pub AllTold : (V : Content) (c : Option Command) (rs : List Run) (end : Image) → Come V c rs end

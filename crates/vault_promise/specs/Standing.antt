@@ -1,6 +1,6 @@
 -- What an answer of one run means to whoever asks again in a later one.
 use Rattle.std.proofs.Common.{inl, inr}
-use Rattle.std.specs.Prelude.{◌≡◌, ◌⊎◌, ℕ, List, [], ◌∷◌, ◌++◌, Ok, Option, Some, None, take, true}
+use Rattle.std.specs.Prelude.{◌≡◌, ◌⊎◌, ℕ, List, [], ◌∷◌, ◌++◌, Ok, Option, None, take}
 use Rattle.std.specs.Io.KnownBytes.{Appends}
 use Rattle.sqlite_wal.specs.Recovery.{Image}
 use Rattle.vault_core.specs.Keys.{Bytes}
@@ -21,8 +21,9 @@ use Rattle.vault_wire.specs.declared.fault.WireFault.{WireFault}
 use Rattle.vault_wire.specs.Parts.{Parts}
 use Rattle.vault_engine.specs.Asking.{Asked, texts, vault_after}
 use Rattle.vault_listen.specs.Live.{Turns}
-use Rattle.vault_listen.specs.Peers.{Link}
-use Rattle.vault_changes.specs.Changes.{changes_at, rights_of}
+use Rattle.vault_live.specs.Turns.{Turn}
+use Rattle.vault_live.specs.Turns.Turn.{Lost, Served, Attended}
+use Rattle.vault_jobs.specs.Lists.{begin_of}
 use Rattle.vault_jobs.specs.Streams.{Streams}
 use Rattle.vault_jobs.specs.declared.task.Task.{Task}
 use Rattle.vault_jobs.specs.declared.task.Task.TheVariants.{Batch, Pipe, Serve}
@@ -75,20 +76,20 @@ pub record LinesStand (tells : Turns) (now : Option ℕ) (digits : Option (List 
   pub went : Appends s.sent_old s.sent_new (take sent (first_line ++ lines W rows))
   pub stand : TokensStand (IsRepliedIn W rows) Later
 
--- and so the texts of each connection, from the vault that those before it leave
-abbrev pub LinksStand : Turns → Content → List (Option Link) → (Command → Reply → Type 0) → Type 0
-LinksStand tells W [] Later = Unit {0}
-LinksStand tells W (None ∷ xs) Later = LinksStand tells W xs Later
-LinksStand tells W (Some x ∷ xs) Later = (it : TextsStand tells None None W (streams_of x) Later)
-    × LinksStand tells (vault_after W it.exchanges) xs Later
+-- and so the texts of each connection, from the vault that the turns before it leave
+abbrev pub TurnsStand : Turns → Content → List Turn → (Command → Reply → Type 0) → Type 0
+TurnsStand tells W [] Later = Unit {0}
+TurnsStand tells W (Lost ∷ ts) Later = TurnsStand tells W ts Later
+TurnsStand tells W (Served x ∷ ts) Later = (it : TextsStand tells None None W (streams_of x) Later)
+    × TurnsStand tells (vault_after W it.exchanges) ts Later
+TurnsStand tells W (Attended cs news ∷ ts) Later = TurnsStand tells (run cs W) ts Later
 
 -- so of a run that answered the messages or the rows of its input, or those of connections
 abbrev pub TellsStanding : Turns → Task → Content → Streams → (Command → Reply → Type 0) → Type 0
 TellsStanding tells (Batch who now digits) W s Later = LinesStand tells now digits W s Later
 TellsStanding tells (Pipe now digits) W s Later = TextsStand tells now digits W s Later
-TellsStanding tells (Serve port connections None) W s Later = LinksStand tells W s.links Later
-TellsStanding tells (Serve port connections (Some it)) W s Later =
-    LinksStand tells (run (changes_at true it.now it.rights.items (rights_of W)) W) s.links Later
+TellsStanding tells (Serve port connections lists) W s Later =
+    TurnsStand tells (run (begin_of lists W) W) s.turns Later
 TellsStanding tells task W s Later = Unit {0}
 
 -- and of each of the runs, with those after it

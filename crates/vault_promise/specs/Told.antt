@@ -1,5 +1,5 @@
 -- What goes out of a task tells of commands that were answered.
-use Rattle.std.specs.Prelude.{◌≡◌, ◌⊎◌, ◌≤◌, ℕ, List, [], ◌∷◌, ◌++◌, All, Option, Some, None, length, take}
+use Rattle.std.specs.Prelude.{◌≡◌, ◌⊎◌, ◌≤◌, ℕ, List, [], ◌∷◌, ◌++◌, All, Option, None, length, take}
 use Rattle.std.specs.Prelude.{true, Ok}
 use Rattle.std.specs.Io.KnownBytes.{Appends, Consumes}
 use Rattle.vault_core.specs.Keys.{Bytes}
@@ -23,12 +23,17 @@ use Rattle.vault_engine.specs.Answered.{pairs_of, units_of}
 use Rattle.vault_engine.specs.Asking as engine
 use Rattle.vault_batch.specs.Rows.{AreRecordsOf, BeginRecordsOf, Fields, fields_in, records_with}
 use Rattle.vault_listen.specs.Peers.{Link}
+use Rattle.vault_live.specs.Turns.{AreAsked, Asking, Turn}
+use Rattle.vault_live.specs.Turns.Turn.{Lost, Served, Attended}
+use Rattle.vault_live.specs.declared.news.News.{News}
 use Rattle.vault_jobs.specs.Ahead.{MaySweep}
 use Rattle.vault_changes.specs.Changes.{changes_at, rights_of}
 use Rattle.vault_changes.specs.Grants.{AreDone, grants_at}
 use Rattle.vault_changes.specs.Settings.{settings_at}
 use Rattle.vault_store.specs.Listed.{merchant_rows}
 use Rattle.vault_jobs.specs.Listing.{shown_text}
+use Rattle.vault_jobs.specs.Lists.{asked_of, begin_of}
+use Rattle.vault_jobs.specs.Outside.{Outside, outside}
 use Rattle.vault_jobs.specs.Streams.{Streams}
 use Rattle.vault_jobs.specs.Sweeps.{AreSwept, Begin, left_dead, purge_at, purges_at}
 use Rattle.vault_jobs.specs.declared.task.Task.{Task}
@@ -100,16 +105,23 @@ streams_of x = record {
   sent_new = x.sent;
   reader = x.reader;
   writer = x.writer;
-  links = [];
+  turns = [];
 }
 
--- Connections answered commands from the vault V, one connection after the other: those of each are answered
--- to its own messages, from the vault that those before it leave.
-abbrev pub AllAnswer : Turns → Content → List (Option Link) → List Command → Type 0
-AllAnswer tells V [] cs = cs ≡ []
-AllAnswer tells V (None ∷ xs) cs = AllAnswer tells V xs cs
-AllAnswer tells V (Some x ∷ xs) cs = (first more : List Command) × (cs ≡ first ++ more)
-    × AreAnswered tells None None V first (streams_of x) × AllAnswer tells (run first V) xs more
+-- these moments are told, and whatever text a file had at whatever look
+abbrev pub seen : Turns → Outside
+seen tells = outside tells (λ path look text. Unit {0})
+
+-- The turns of a service answered commands from the vault V, one turn after the other, each from the vault
+-- that those before it leave: those of a connection are answered to its own messages, and those between two
+-- connections are the first of what was asked for there.
+abbrev pub AllAnswer : Turns → Asking → Content → List Turn → List Command → Type 0
+AllAnswer tells asks V [] cs = cs ≡ []
+AllAnswer tells asks V (Lost ∷ ts) cs = AllAnswer tells asks V ts cs
+AllAnswer tells asks V (Served x ∷ ts) cs = (first more : List Command) × (cs ≡ first ++ more)
+    × AreAnswered tells None None V first (streams_of x) × AllAnswer tells asks (run first V) ts more
+AllAnswer tells asks V (Attended first news ∷ ts) cs = AreAsked asks V first
+    × ((more : List Command) × (cs ≡ first ++ more) × AllAnswer tells asks (run first V) ts more)
 
 -- these commands are the first of those
 abbrev pub AreFirst : List Command → List Command → Type 0
@@ -119,9 +131,10 @@ AreFirst cs all = (k : ℕ) × (cs ≡ take k all)
 -- line of `done`, of rights, of merchants or of numbers that are purged, or a part of it, says that all are
 -- done; where a sweep may not begin, no number is purged, and none of that line went out. Lines of rows and
 -- texts of messages, which were read, are those that answer them, or the first bytes of these; and so are
--- the texts of each connection of a service. Where that begins with a list of rights, the first commands
--- are those that make the rights the list's, and no connection is answered before they are done. What a
--- vault is said to hold is the text of it, or the first bytes of that.
+-- the texts of each connection of a service. The first commands of that are those that its lists ask for:
+-- they set the merchants, and then make the rights exactly the list's. No connection is answered before they
+-- are done; between two connections others do so for a later text of a file. What a vault is said to hold is
+-- the text of it, or the first bytes of that.
 abbrev pub Tells : Turns → Task → Content → List Command → Streams → Type 0
 Tells tells (Change c) V cs s = IsQuiet s × AreFirst cs (c ∷ []) ⊎ (cs ≡ c ∷ []) × (reply V c ≡ Done)
 Tells tells (Give rights now) V cs s = IsQuiet s × AreFirst cs (grants_at now rights.items)
@@ -139,12 +152,11 @@ Tells tells (Batch who now digits) V cs s = (asked : List Asked) × All (Asks wh
     × (cs ≡ commands_of asked) × AreRead tells now digits s asked
     × ((sent : ℕ) × Appends s.sent_old s.sent_new (take sent (first_line ++ lines V asked)))
 Tells tells (Pipe now digits) V cs s = AreAnswered tells now digits V cs s
-Tells tells (Serve port connections None) V cs s = AllAnswer tells V s.links cs
-Tells tells (Serve port connections (Some it)) V cs s =
-    (let changes = changes_at true it.now it.rights.items (rights_of V) in
-    ((k : ℕ) × (cs ≡ take k changes) × (s.links ≡ []))
-    ⊎ ((more : List Command) × (cs ≡ changes ++ more) × AreDone (length changes) changes V
-    × AllAnswer tells (run changes V) s.links more))
+Tells tells (Serve port connections lists) V cs s =
+    (let first = begin_of lists V in
+    ((k : ℕ) × (cs ≡ take k first) × (s.turns ≡ []))
+    ⊎ ((more : List Command) × (cs ≡ first ++ more) × AreDone (length first) first V
+    × AllAnswer tells (asked_of (seen tells) lists) (run first V) s.turns more))
 Tells tells (Show it) V cs s =
     (cs ≡ []) × ((sent : ℕ) × Appends s.sent_old s.sent_new (take sent (shown_text it V)))
 
@@ -154,10 +166,14 @@ IsAskedNext tells now digits s cs x = (xs : List (engine.Asked Parts)) × (it : 
     × (cs ≡ commands_of xs) × (it.wanted ≡ Ok x)
     × ((heard : AreHeard tells now digits s xs) × (heard.more ≡ it ∷ []))
 
--- so on the last connection
-abbrev pub IsLastNext : Turns → List (Option Link) → Command → Type 0
-IsLastNext tells links x = (first : List (Option Link)) × (link : Link) × (cs : List Command)
-    × (links ≡ first ++ Some link ∷ []) × IsAskedNext tells None None (streams_of link) cs x
+-- so in the last turn of a service: its last connection asks for it; or it is the next of what was asked for
+-- there, from the vault that the commands before that turn leave
+abbrev pub IsLastNext : Turns → Asking → Content → List Turn → List Command → Command → Type 0
+IsLastNext tells asks V turns cs x = ((first : List Turn) × (link : Link) × (own : List Command)
+    × (turns ≡ first ++ Served link ∷ []) × IsAskedNext tells None None (streams_of link) own x)
+    ⊎ ((first : List Turn) × (own : List Command) × (news : News) × (before : List Command)
+    × (turns ≡ first ++ Attended own news ∷ []) × (cs ≡ before ++ own)
+    × AreAsked asks (run before V) (own ++ x ∷ []))
 
 -- A command that a task didn't answer, and that may be done: it was asked for. It is the one of the words,
 -- the next one of a list, or the purge of the next dead token; or the next row that came in, or message, asks
@@ -176,8 +192,8 @@ IsNext tells (Batch who now digits) V cs s x = (rows : List Asked) × (it : Aske
     × Asks who it × (it.wanted ≡ Ok x)
     × BeginRecordsOf s.left_old (records_with (rows_of rows) ++ fields_in it.unit ∷ [])
 IsNext tells (Pipe now digits) V cs s x = IsAskedNext tells now digits s cs x
-IsNext tells (Serve port connections None) V cs s x = IsLastNext tells s.links x
-IsNext tells (Serve port connections (Some it)) V cs s x =
-    AreFirst (cs ++ x ∷ []) (changes_at true it.now it.rights.items (rights_of V))
-    ⊎ IsLastNext tells s.links x
+IsNext tells (Serve port connections lists) V cs s x =
+    (let first = begin_of lists V in
+    AreFirst (cs ++ x ∷ []) first ⊎ ((more : List Command) × (cs ≡ first ++ more)
+    × IsLastNext tells (asked_of (seen tells) lists) (run first V) s.turns more x))
 IsNext tells (Show it) V cs s x = ⊥

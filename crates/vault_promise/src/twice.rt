@@ -14,6 +14,7 @@ use std::convert::AsStr;
 use std::io::{Read, Write};
 use vault_listen::network::Network;
 use vault_listen::time::Timekeeper;
+use vault_live::desk::Desk;
 use vault_wire::watched::Watched;
 
 /// Runs the program on the words and then on the words of another call, each with an input of its own, and
@@ -21,11 +22,12 @@ use vault_wire::watched::Watched;
 ///
 /// The two calls are two runs, of which the second answers again what the first answered: a request that the
 /// first answered a token, if the second is asked it again, is answered that token.
-pub fn twice<K: Timekeeper, N: Network, A: AsStr, R: Read, W: Write, E: Write>(
+pub fn twice<K: Timekeeper, N: Network, D: Desk, A: AsStr, R: Read, W: Write, E: Write>(
     rt: &HostRuntime,
     kept: KeptFiles,
     time: &K,
     network: &mut N,
+    desk: &D,
     words: &[A],
     words_again: &[A],
     input: &mut Watched<R>,
@@ -36,14 +38,25 @@ pub fn twice<K: Timekeeper, N: Network, A: AsStr, R: Read, W: Write, E: Write>(
     ensures { IfSome result (λ left. (r s : Run) × (middle : KeptFiles) × (n : N) × (o : Watched W)
         × (e : Watched E)
         × IsCallOf ⟦<Memory as Disk>⟧ R.remaining W.contents E.contents (N.tells network.old) (N.tells n)
-        (memory_world (K.tells time.now) (bytes_in (files_kept kept))) (map A.text words.now) left.0
+        (memory_world (K.tells time.now) (D.says desk.now) (bytes_in (files_kept kept)))
+        (map A.text words.now) left.0
         input.old input.new output.old o errors.old e (MayBeLeftIn (files_kept middle)) r
         × IsCallOf ⟦<Memory as Disk>⟧ R.remaining W.contents E.contents (N.tells n) (N.tells network.new)
-        (memory_world (K.tells time.now) (bytes_in (files_kept middle))) (map A.text words_again.now) left.1
+        (memory_world (K.tells time.now) (D.says desk.now) (bytes_in (files_kept middle)))
+        (map A.text words_again.now) left.1
         input_again.old input_again.new o output.new e errors.new (MayBeLeftIn (files_kept left.2)) s
         × ∥ PipesAgree r s ∥₁) }
 {
-    let (first, middle) = kept.again(rt, time, network, words, input, output, errors);
-    let (second, left) = middle?.again(rt, time, network, words_again, input_again, output, errors);
+    let (first, middle) = kept.again(rt, time, network, desk, words, input, output, errors);
+    let (second, left) = middle?.again(
+        rt,
+        time,
+        network,
+        desk,
+        words_again,
+        input_again,
+        output,
+        errors,
+    );
     Some((first, second, left?))
 }

@@ -20,24 +20,36 @@ use vault_app::run::run;
 use vault_file::paths::Paths;
 use vault_listen::network::Network;
 use vault_listen::time::Timekeeper;
+use vault_live::desk::Desk;
 use vault_wire::watched::Watched;
 
 /// Runs the program, and answers its exit status and the files that it leaves.
 ///
 /// By the promise this call is a run: from whatever bytes its file holds, with whatever moments its clock
 /// tells, up to whatever bytes may be left of the files.
-pub fn run_again<P: Paths, K: Timekeeper, N: Network, A: AsStr, R: Read, W: Write, E: Write>(
+pub fn run_again<
+    P: Paths,
+    K: Timekeeper,
+    N: Network,
+    D: Desk,
+    A: AsStr,
+    R: Read,
+    W: Write,
+    E: Write,
+>(
     rt: &HostRuntime,
     paths: P,
     time: &K,
     network: &mut N,
+    desk: &D,
     words: &[A],
     input: &mut Watched<R>,
     output: &mut Watched<W>,
     errors: &mut Watched<E>,
 ) -> (u8, Option<FileStore<P::Disk>>)
     ensures { let world : World =
-        world_of (K.tells time.now) (P.holds paths) (P.lacks paths) (P.refuses paths) (P.says paths)
+        world_of (K.tells time.now) (D.says desk.now) (P.holds paths) (P.lacks paths) (P.refuses paths)
+        (P.says paths)
         (P.logs paths) in
         (image : Image) (moments : Moments)
         → ((turn now : ℕ) → K.tells time.now turn now → told_by moments turn now)
@@ -48,8 +60,8 @@ pub fn run_again<P: Paths, K: Timekeeper, N: Network, A: AsStr, R: Read, W: Writ
         errors.new (Leaves image result.1) r
         × ((next : Image) → Leaves image result.1 next → IsRun r next) }
 {
-    promise_is_kept::<P, K, R, W, E>();
-    run(rt, paths, time, network, words, input, output, errors)
+    promise_is_kept::<P, K, D, R, W, E>();
+    run(rt, paths, time, network, desk, words, input, output, errors)
 }
 
 impl KeptFiles {
@@ -58,11 +70,12 @@ impl KeptFiles {
     ///
     /// This very call is a run after those before it, and what each of them answered stands in later ones.
     /// A request that one of them answered a token, if this one is asked it again, is answered that token.
-    pub fn again<K: Timekeeper, N: Network, A: AsStr, R: Read, W: Write, E: Write>(
+    pub fn again<K: Timekeeper, N: Network, D: Desk, A: AsStr, R: Read, W: Write, E: Write>(
         self,
         rt: &HostRuntime,
         time: &K,
         network: &mut N,
+        desk: &D,
         words: &[A],
         input: &mut Watched<R>,
         output: &mut Watched<W>,
@@ -72,7 +85,8 @@ impl KeptFiles {
         // agrees with each
         ensures follows { IfSome result.1 (λ kept. (r : Run) × (r.begins ≡ bytes_in (files_kept self))
             × IsCallOf ⟦<Memory as Disk>⟧ R.remaining W.contents E.contents (N.tells network.old)
-            (N.tells network.new) (memory_world (K.tells time.now) (bytes_in (files_kept self)))
+            (N.tells network.new) (memory_world (K.tells time.now) (D.says desk.now)
+            (bytes_in (files_kept self)))
             (map A.text words.now) result.0 input.old input.new output.old output.new errors.old errors.new
             (MayBeLeftIn (files_kept kept)) r
             × GoesOn (MayBeLeftIn (files_kept self)) r (MayBeLeftIn (files_kept kept))
@@ -81,10 +95,12 @@ impl KeptFiles {
         // stands in later ones
         ensures stands { IfSome result.1 (λ kept. StandsAfter (MayBeLeftIn (files_kept kept))) }
     {
-        answers_stand::<MemoryPaths, K, R, W, E>();
-        answers_again::<MemoryPaths, K, R, W, E>();
+        answers_stand::<MemoryPaths, K, D, R, W, E>();
+        answers_again::<MemoryPaths, K, D, R, W, E>();
         let paths = MemoryPaths { files: self.files };
-        let (status, left) = run_again(rt, paths, time, network, words, input, output, errors);
+        let (status, left) = run_again(
+            rt, paths, time, network, desk, words, input, output, errors,
+        );
         match left {
             Some(store) => (
                 status,

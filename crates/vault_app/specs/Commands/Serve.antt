@@ -1,13 +1,12 @@
 -- `serve`: the vault of a file served on a port.
-use Rattle.std.specs.Prelude.{◌≡◌, ℕ, List, Option, None, Some, IsSome, unwrap_or}
-use Rattle.std.specs.Borrow.{Bor}
-use Rattle.std.specs.Global.{Vec}
-use Rattle.vault_rights.specs.Named.{Row}
+use Rattle.std.specs.Prelude.{◌≡◌, ◌⊎◌, ℕ, IsSome, unwrap_or}
 use Rattle.vault_words.specs.declared.commands.serve.ServeJob.{ServeJob}
-use Rattle.vault_jobs.specs.Moments.{IsMomentOf}
+use Rattle.vault_jobs.specs.declared.lists.Lists.{Lists}
 use Rattle.vault_jobs.specs.declared.task.Task.{Task}
 use Rattle.vault_jobs.specs.declared.task.Task.TheVariants as task
-use Rattle.vault_app.specs.Rights.{IsListed, IsRefusedText}
+use Rattle.vault_app.specs.Followed.{IsFollowed, IsRefusedAt, RefusesMerchants, RefusesRights}
+use Rattle.vault_app.specs.Merchants.{AreMerchantsIn}
+use Rattle.vault_app.specs.Rights.{IsListedIn}
 use Rattle.vault_app.specs.Saying.{OfTask, Saying, quiet}
 use Rattle.vault_app.specs.World.{World}
 
@@ -15,24 +14,18 @@ use Rattle.vault_app.specs.World.{World}
 abbrev pub without_end : ℕ
 without_end = 18446744073709551615
 
--- A service on a port of so many connections. Where the words name a list of rights, it begins with those
--- that this lists, at a moment that was told.
-abbrev pub IsServeOf : World → ℕ → ℕ → Option (Bor (List ℕ)) → Task → Type 0
-IsServeOf world port connections None t = t ≡ task.Serve port connections None
-IsServeOf world port connections (Some path) t = (rows : Vec Row) × (now : ℕ)
-    × IsListed (world.says path.now) rows.items × IsMomentOf world.tells None now
-    × (t ≡ task.Serve port connections (Some (record { rights = rows; now = now })))
+-- A service on a port of so many connections. Where the words name lists, it begins with the merchants and
+-- the rights that texts of these files list, at moments that were told, and follows the files.
+abbrev pub IsServeOf : ServeJob → World → Task → Type 0
+IsServeOf j world t = (lists : Lists) × IsFollowed AreMerchantsIn world j.merchants lists.merchants
+    × IsFollowed IsListedIn world j.rights lists.rights
+    × (t ≡ task.Serve j.port (unwrap_or j.connections without_end) lists)
 
--- a text of the file of its list names no rights, where it has one
-abbrev pub IsRefusedAt : World → Option (Bor (List ℕ)) → ℕ → Type 0
-IsRefusedAt world None n = ⊥
-IsRefusedAt world (Some path) n = IsRefusedText (world.says path.now) n
-
--- it is refused for a text of the file of its list, where it has one, and needs a moment only then
+-- it is refused for a text of the file of a list, where it has one, and needs a moment only then
 abbrev pub serve_says : ServeJob → Saying
-serve_says j = record (quiet (OfTask j.file
-    (λ world t. IsServeOf world j.port (unwrap_or j.connections without_end) j.rights t))) {
-      refused = λ world n. IsRefusedAt world j.rights n;
-      needs_moment = IsSome j.rights;
-      has_list = IsSome j.rights;
-    }
+serve_says j = record (quiet (OfTask j.file (IsServeOf j))) {
+  refused = λ world n. IsRefusedAt RefusesMerchants world j.merchants n
+      ⊎ IsRefusedAt RefusesRights world j.rights n;
+  needs_moment = IsSome j.merchants ⊎ IsSome j.rights;
+  has_list = IsSome j.merchants ⊎ IsSome j.rights;
+}

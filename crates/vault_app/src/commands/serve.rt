@@ -1,47 +1,25 @@
 //! `serve`: the vault of a file served on a port.
-ghost use Rattle.std.specs.Prelude.{◌≡◌, IfErr, IfOk};
-ghost use Rattle.vault_core.specs.Scalar.{IsMoment};
+ghost use Rattle.std.specs.Prelude.{IfOk};
 ghost use Rattle.vault_words.specs.declared.jobs.Job.{Job};
-ghost use Rattle.vault_app.specs.Listed.{AreListedAt, EndsUnlisted};
 ghost use Rattle.vault_app.specs.Plans.{ComesToTask};
 ghost use Rattle.vault_app.specs.World.{said};
 ghost use Rattle.vault_app.specs.Values.{AreValues};
 
-use crate::commands::rights_file::read;
+use crate::commands::followed::{merchants_at, rights_at};
 use crate::ending::Ending;
 use vault_file::paths::Paths;
-use vault_jobs::clock::moment;
-use vault_jobs::task::{Listed, Task};
+use vault_jobs::lists::Lists;
+use vault_jobs::task::Task;
 use vault_listen::time::Timekeeper;
 use vault_words::commands::serve::ServeJob;
 
 /// More connections than any service lives to see: it goes on until it is ended.
 const WITHOUT_END: u64 = u64::MAX;
 
-/// The rights that a file lists, with the clock's moment; or how the job ends without them.
-fn listed<P: Paths, K: Timekeeper>(
-    rt: &HostRuntime,
-    paths: &P,
-    time: &K,
-    path: &str,
-) -> Result<Listed, Ending>
-    // with Ok, a text of the file names the rights, and the moment was told; they are values of their types
-    ensures listed { IfOk result
-        (AreListedAt (said (K.tells time.now) (P.says paths.now)) path.now) }
-    // with Err, it ends for want of a list or of a moment
-    ensures unlisted { IfErr result
-        (EndsUnlisted (said (K.tells time.now) (P.says paths.now)) path.now) }
-{
-    let rights = read(rt, paths, path)?;
-    match moment(time, None) {
-        Ok(now) => Ok(Listed { rights, now }),
-        Err(stop) => Err(Ending::Stopped(stop)),
-    }
-}
-
-/// So many connections are served on a port, or connections without an end. Where the words name a rights
-/// file, the rights become exactly those that it lists before that. The vault's file isn't touched where the
-/// list isn't read.
+/// So many connections are served on a port, or connections without an end. Where the words name a list of
+/// merchants or a rights file, the merchants are set and the rights become exactly those before that, and the
+/// service follows the files. A list without a row is refused by 70, unless its last line is `# end`. The
+/// vault's file isn't touched where a list isn't read.
 pub(crate) fn task<P: Paths, K: Timekeeper>(
     rt: &HostRuntime,
     paths: &P,
@@ -54,11 +32,13 @@ pub(crate) fn task<P: Paths, K: Timekeeper>(
     ensures proper { IfOk result AreValues }
 {
     let connections = job.connections.unwrap_or(WITHOUT_END);
-    let Some(path) = job.rights else {
-        return Ok(Task::Serve(job.port, connections, None));
+    let merchants = match merchants_at(rt, paths, time, job.merchants) {
+        Ok(merchants) => merchants,
+        Err(ending) => return Err(ending),
     };
-    match listed(rt, paths, time, path) {
-        Ok(listed) => Ok(Task::Serve(job.port, connections, Some(listed))),
-        Err(ending) => Err(ending),
-    }
+    let rights = match rights_at(rt, paths, time, job.rights) {
+        Ok(rights) => rights,
+        Err(ending) => return Err(ending),
+    };
+    Ok(Task::Serve(job.port, connections, Lists { merchants, rights }))
 }

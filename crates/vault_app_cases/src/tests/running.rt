@@ -3,6 +3,7 @@ use sqlite::Unknown;
 use std::alloc::Global;
 use std::io::{Error, ErrorKind, Read, Write};
 use std::{fs, io};
+use vault_app::desk::HostDesk;
 use vault_app::run::run;
 use vault_file::host::HostPaths;
 use vault_listen::network::Loopback;
@@ -118,11 +119,13 @@ pub fn status_of(
 ) -> u8 {
     let time = ClockTime::new(rt);
     let mut network = Loopback::new(rt, Limits::of_service());
+    let desk = HostDesk::new(rt);
     run(
         rt,
         HostPaths::new(Unknown),
         &time,
         &mut network,
+        &desk,
         words,
         input,
         output,

@@ -161,10 +161,11 @@ Arguments:
   <FILE>  The vault's file; it is made if it isn't there
 
 Options:
-      --connections <N>  Ends after N connections, 1 to 1000000; else never
-      --port <P>         The port, 0 to 65535; 0, any free one, if left out
-      --rights <RIGHTS>  Makes the rights exactly those of this file first
-  -h, --help             Print help
+      --connections <N>   Ends after N connections, 1 to 1000000; else never
+      --port <P>          The port, 0 to 65535; 0, any free one, if left out
+      --rights <RIGHTS>   Makes the rights those of this file, and follows it
+      --merchants <LIST>  Sets the merchants of this list, and follows it
+  -h, --help              Print help
 
 It listens on 127.0.0.1 alone. The line `listening P` on standard output says
 that it does, and P is its port. Connections are served one after the other.
@@ -172,6 +173,10 @@ A message has to be whole 5 seconds after its connection was accepted, or after
 the answer before it; an answer has to be taken within 5 seconds. A connection
 lasts 60 seconds at most. One that is quiet between two messages ends where
 another waits.
+
+Lists that are followed are looked at twice a second, between two connections.
+A new text that two looks saw is carried out, and a line says so. A bad one
+changes nothing. No merchant is removed; a last line `# end` has to stay.
 ";
 
 /// `vault help sweep`

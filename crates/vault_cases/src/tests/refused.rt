@@ -128,7 +128,7 @@ fn digits_are_1_to_300(rt: HostRuntime) {
     assert!(rt; most.len() == 300 && are_told(&rt, &DIGITS, &values));
 }
 
-const MISSING: [&str; 27] = [
+const MISSING: [&str; 28] = [
     "",
     "vault",
     "vault trial",
@@ -150,6 +150,7 @@ const MISSING: [&str; 27] = [
     "vault serve",
     "vault serve --connections 1",
     "vault serve v.db --rights",
+    "vault serve v.db --merchants",
     "vault list --json",
     "vault sweep",
     "vault sweep back shop1",

@@ -18,6 +18,7 @@ use vault_listen::peer::{LONGEST, Limits, PATIENCE};
 use vault_listen::service::serve_on;
 use vault_listen::tcp::TcpPeers;
 use vault_listen::time::ClockTime;
+use vault_routes::route::Routes;
 use vault_script::worked::{ANSWERED, ASKED};
 use vault_store::tables::Tables;
 use vault_store::vault::Vault;
@@ -74,7 +75,18 @@ fn serve_within<T: Tables>(
     let mut generator = StdRng::seed_from_u64(7);
     let time = ClockTime::new(clock);
     let mut peers = TcpPeers::new(alloc, Lent::new(listener), clock, limits);
-    serve_on(alloc, &time, &mut generator, &mut peers, connections, vault)
+    let Ok(routes) = Routes::new(alloc) else {
+        return Err(ListenFault::Memory);
+    };
+    serve_on(
+        alloc,
+        &time,
+        &mut generator,
+        &routes,
+        &mut peers,
+        connections,
+        vault,
+    )
 }
 
 /// A message or an answer may take 200 milliseconds.

@@ -2,6 +2,7 @@
 ghost use Rattle.vault_jobs.specs.Tasks.{IsProper};
 
 use super::clocks::TestClock;
+use super::desks::TestDesk;
 use super::fakes::{TestReader, TestWriter};
 use vault_jobs::task::{Outcome, Task, do_task};
 use vault_listen::network::Loopback;
@@ -27,12 +28,14 @@ pub fn outcome(
     let clock = TestClock::at(1000);
     let time = ClockTime::new(&clock);
     let mut network = Loopback::new(rt, Limits::of_service());
+    let desk = TestDesk::new(rt.alloc(), &[]);
     let mut reader = Watched::new(TestReader::Bytes(b""));
     let mut writer = Watched::new(TestWriter::Whole(output));
     match do_task(
         rt,
         &time,
         &mut network,
+        &desk,
         task,
         vault,
         &mut reader,

@@ -5,7 +5,7 @@ use vault_words::job::job;
 use vault_words::jobs::JobFault;
 
 /// Words, and what is said of them.
-const SAID: [(&str, &str); 14] = [
+const SAID: [(&str, &str); 15] = [
     (
         "vault serve --port 99999 v.db",
         "PORT: 99999 isn't a port\n",
@@ -39,6 +39,10 @@ const SAID: [(&str, &str); 14] = [
     (
         "vault serve v.db --rights",
         "a value is required for '--rights <RIGHTS>' but none was supplied\n",
+    ),
+    (
+        "vault serve v.db --merchants",
+        "a value is required for '--merchants <LIST>' but none was supplied\n",
     ),
     // what shows ten digits might show a card number
     ("vault merchant v.db shop1 3155760001 0", ""),

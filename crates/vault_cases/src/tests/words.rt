@@ -14,7 +14,7 @@ use vault_words::jobs::Job;
 const TWO_GROUPS: &str = "411111111111000000000000000000";
 
 /// Words with options, and the jobs that they ask for.
-const WITH_OPTIONS: [(&str, &str); 21] = [
+const WITH_OPTIONS: [(&str, &str); 22] = [
     (
         "vault trial --now 1000 till-1 shop1 60",
         "Trial(TrialJob { now: Some(Moment { seconds: 1000 }), digits: None, \
@@ -98,12 +98,18 @@ const WITH_OPTIONS: [(&str, &str); 21] = [
     ),
     (
         "vault serve --port 8080 --connections 3 v.db",
-        "Serve(ServeJob { connections: Some(3), port: 8080, rights: None, file: \"v.db\" })",
+        "Serve(ServeJob { connections: Some(3), port: 8080, rights: None, merchants: None, \
+         file: \"v.db\" })",
     ),
     (
         "vault serve v.db --rights=rights.toml --connections=3 --port=8080",
         "Serve(ServeJob { connections: Some(3), port: 8080, rights: Some(\"rights.toml\"), \
-         file: \"v.db\" })",
+         merchants: None, file: \"v.db\" })",
+    ),
+    (
+        "vault serve --merchants merchants.toml v.db --rights rights.toml",
+        "Serve(ServeJob { connections: None, port: 0, rights: Some(\"rights.toml\"), \
+         merchants: Some(\"merchants.toml\"), file: \"v.db\" })",
     ),
     (
         "vault list --json v.db",
@@ -159,11 +165,13 @@ const WITHOUT_OPTIONS: [(&str, &str); 14] = [
     ),
     (
         "vault serve v.db",
-        "Serve(ServeJob { connections: None, port: 0, rights: None, file: \"v.db\" })",
+        "Serve(ServeJob { connections: None, port: 0, rights: None, merchants: None, \
+         file: \"v.db\" })",
     ),
     (
         "vault serve --connections 1 v.db",
-        "Serve(ServeJob { connections: Some(1), port: 0, rights: None, file: \"v.db\" })",
+        "Serve(ServeJob { connections: Some(1), port: 0, rights: None, merchants: None, \
+         file: \"v.db\" })",
     ),
     (
         "vault sweep v.db back shop1",

@@ -1,4 +1,5 @@
 //! Runs of the program one after the other over files in memory, with a stop after each.
+use vault_app::desk::HostDesk;
 use vault_listen::network::Loopback;
 use vault_listen::peer::Limits;
 use vault_listen::time::ClockTime;
@@ -20,6 +21,7 @@ fn run_kept(
     let words = words_of(rt.alloc(), line, "vault.db");
     let time = ClockTime::new(rt);
     let mut network = Loopback::new(rt, Limits::of_service());
+    let desk = HostDesk::new(rt);
     let mut output = Vec::new(rt.alloc());
     let mut errors = Vec::new(rt.alloc());
     let mut reader = Watched::new(input);
@@ -29,6 +31,7 @@ fn run_kept(
         rt,
         &time,
         &mut network,
+        &desk,
         &words,
         &mut reader,
         &mut writer,
@@ -119,6 +122,7 @@ fn sent_twice(rt: &HostRuntime, kept: KeptFiles) -> Option<Vec<u8>> {
     );
     let time = ClockTime::new(rt);
     let mut network = Loopback::new(rt, Limits::of_service());
+    let desk = HostDesk::new(rt);
     let mut output = Vec::new(rt.alloc());
     let mut errors = Vec::new(rt.alloc());
     let mut first = Watched::new(ASKED.as_bytes());
@@ -130,6 +134,7 @@ fn sent_twice(rt: &HostRuntime, kept: KeptFiles) -> Option<Vec<u8>> {
         kept,
         &time,
         &mut network,
+        &desk,
         &words,
         &later,
         &mut first,

@@ -1,4 +1,4 @@
-//! `serve [--connections N] [--port P] [--rights RIGHTS] FILE`
+//! `serve [--connections N] [--port P] [--rights RIGHTS] [--merchants LIST] FILE`
 ghost use Rattle.std.specs.Prelude.{IfOk};
 ghost use Rattle.clap.specs.Words.{found_of, rows_of};
 ghost use Rattle.vault_words.specs.Commands.Serve.{AsksServe, serve_app};
@@ -17,8 +17,11 @@ pub struct ServeJob<'a> {
     pub connections: Option<u64>,
     /// The port at which they are taken; 0 is any free one.
     pub port: u16,
-    /// The rights file whose rights are the vault's, exactly, before it listens; they stay, if there is none.
+    /// The rights file whose rights are the vault's, exactly, before it listens and as it changes; they stay,
+    /// if there is none.
     pub rights: Option<&'a str>,
+    /// The list of merchants that are set before that, and as it changes; they stay, if there is none.
+    pub merchants: Option<&'a str>,
     /// The file of the vault.
     pub file: &'a str,
 }
@@ -32,6 +35,7 @@ impl<'a> ServeJob<'a> {
             connections: values::connections(matches)?,
             port: values::port(matches)?,
             rights: values::maybe_text(matches, "rights"),
+            merchants: values::maybe_text(matches, "merchants"),
             file: values::text(matches, "FILE")?,
         })
     }
@@ -44,7 +48,11 @@ that it does, and P is its port. Connections are served one after the other.
 A message has to be whole 5 seconds after its connection was accepted, or after
 the answer before it; an answer has to be taken within 5 seconds. A connection
 lasts 60 seconds at most. One that is quiet between two messages ends where
-another waits.";
+another waits.
+
+Lists that are followed are looked at twice a second, between two connections.
+A new text that two looks saw is carried out, and a line says so. A bad one
+changes nothing. No merchant is removed; a last line `# end` has to stay.";
 
 /// The command `serve`.
 pub(crate) fn serve<'a>(alloc: Global) -> Result<Command<'a>, AllocError>
@@ -55,11 +63,14 @@ pub(crate) fn serve<'a>(alloc: Global) -> Result<Command<'a>, AllocError>
     let connections = args::number_after(alloc, "connections", "N", count);
     let which = "The port, 0 to 65535; 0, any free one, if left out";
     let port = args::number_after(alloc, "port", "P", which);
-    let listed = "Makes the rights exactly those of this file first";
+    let listed = "Makes the rights those of this file, and follows it";
     let rights = args::text_after(alloc, "rights", "RIGHTS", listed);
+    let set = "Sets the merchants of this list, and follows it";
+    let merchants = args::text_after(alloc, "merchants", "LIST", set);
     let command = Ok(args::with_notes(args::command(alloc, "serve", about), NOTES));
     let command = add(command, connections);
     let command = add(command, port);
     let command = add(command, rights);
+    let command = add(command, merchants);
     add(command, args::file(alloc))
 }

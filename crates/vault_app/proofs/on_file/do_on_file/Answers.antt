@@ -2,25 +2,29 @@ use Rattle.std.proofs.Common.{◌≡◌, [], Some, ap, inl, inr, refl, subst, sy
 use Rattle.vault_file.specs.declared.fault.NotOpened.TheVariants as file
 use Rattle.vault_verdict.specs.declared.fault.OpenFault.TheVariants.{Memory}
 use Rattle.vault_jobs.proofs.Parts.{unlinked}
-use Rattle.vault_jobs.specs.Streams.{Streams, streams, with_links}
+use Rattle.vault_jobs.specs.Streams.{Streams, streams, with_turns}
 use Rattle.vault_listen.proofs.ServedConnections.{none_then}
 use Rattle.vault_sql.specs.Places.{IsPast}
 use Rattle.vault_store.specs.Applied.{is_broken}
 use Rattle.vault_app.proofs.Files.{ended, refused_file, works}
 use Rattle.vault_app.specs.Files.{EndsOnFile}
-use Rattle.vault_app.specs.World.{World, world_at}
+use Rattle.vault_app.specs.World.{World, outside_in, world_at}
 use Rattle.vault_app.proofs.on_file.do_on_file.Goals as goal
 
 pub returns-in-Err-open_vault : goal.returns-in-Err-open_vault
 returns-in-Err-open_vault g c =
-    let world : World = world_at g.P.Paths (g.K.Timekeeper.tells c.args.time.now) c.args.paths in
-    let s : Streams = with_links (streams g.R.Read.remaining c.args.input.now c.args.input.now
+    let world : World = world_at g.P.Paths (g.K.Timekeeper.tells c.args.time.now)
+    (g.D.Desk.says c.args.desk.now)
+    c.args.paths in
+    let s : Streams = with_turns (streams g.R.Read.remaining c.args.input.now c.args.input.now
     g.W.Write.contents c.args.output.now c.args.output.now) [] in
     let told = c.in-Err-open_vault.ensures in
     record {
       does = unlinked (g.N.Network.tells c.args.network.now) _ (refused_file world c.args.path.now
-          (c.args.input.now ≡ c.args.input.now) (c.args.output.now ≡ c.args.output.now) s c.in-Err-open_vault.left
-          c.args.task.now c.in-Err-open_vault.fault told.refused told.refused_there told.spared told.tells told.left
+          (c.args.input.now ≡ c.args.input.now) (c.args.output.now ≡ c.args.output.now) s
+          c.in-Err-open_vault.left
+          c.args.task.now c.in-Err-open_vault.fault told.refused told.refused_there told.spared told.tells
+          told.left
           told.same refl refl);
     }
 
@@ -62,8 +66,10 @@ returns-in-Err g c =
 pub returns : goal.returns
 returns g c =
     let it = c.do_task-outcome.ensures.does in
-    let world : World = world_at g.P.Paths (g.K.Timekeeper.tells c.args.time.now) c.args.paths in
-    let s : Streams = with_links (streams g.R.Read.remaining c.args.input.now c.do_task-outcome.new.input
+    let world : World = world_at g.P.Paths (g.K.Timekeeper.tells c.args.time.now)
+    (g.D.Desk.says c.args.desk.now)
+    c.args.paths in
+    let s : Streams = with_turns (streams g.R.Read.remaining c.args.input.now c.do_task-outcome.new.input
     g.W.Write.contents c.args.output.now c.do_task-outcome.new.output) it.0 in
     let unread : Type 0 = c.do_task-outcome.new.input ≡ c.args.input.now in
     let unsent : Type 0 = c.do_task-outcome.new.output ≡ c.args.output.now in
@@ -76,7 +82,7 @@ returns g c =
         subst (λ e. EndsOnFile world c.args.path.now (Some left) c.args.task.now e unread unsent s)
             (sym c.ending_of.ensures)
             (ended world c.args.path.now unread unsent s left c.args.task.now c.do_task-outcome.result
-            (works (λ t. t.conn) (λ t. t.failed) (λ t V. IsPast t.place V) world.tells
+            (works (λ t. t.conn) (λ t. t.failed) (λ t V. IsPast t.place V) (outside_in world)
             (world.holds c.args.path.now) c.in-Ok.vault
             c.do_task-outcome.new.vault left c.args.task.now c.do_task-outcome.result
             (is_broken c.do_task-outcome.new.vault) unread unsent s c.in-Ok.ensures.found

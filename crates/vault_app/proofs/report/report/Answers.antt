@@ -2,7 +2,7 @@ use Rattle.std.proofs.Common.{ℕ, List, ◌++◌, ◌∙◌, ap, append-nil, co
 use Rattle.vault_wire.specs.Watching.{inner_of, is_stopped}
 use Rattle.vault_app.specs.Ending.{stop_line}
 use Rattle.vault_refusal.specs.Refusal.{number_of}
-use Rattle.vault_jobs.specs.Told.{Tells}
+use Rattle.vault_live.specs.Told.{Tells}
 use Rattle.vault_app.proofs.report.report.Goals as goal
 
 pub returns-in-Stopped-clause-said : goal.returns-in-Stopped-clause-said

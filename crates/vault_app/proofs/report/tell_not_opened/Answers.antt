@@ -2,7 +2,7 @@ use Rattle.std.proofs.Common.{List, ℕ, ◌++◌, codes, decimal, ap, subst, sy
 use Rattle.std.specs.Fmt.{signed_decimal}
 use Rattle.std.proofs.lemmas.Int.{to_z-of_z}
 use Rattle.vault_refusal.specs.Refusal.{number_of}
-use Rattle.vault_jobs.specs.Told.{Tells}
+use Rattle.vault_live.specs.Told.{Tells}
 use Rattle.vault_app.proofs.Lines.{with_detail, without_detail}
 use Rattle.vault_app.proofs.report.tell_not_opened.Goals as goal
 

@@ -1,7 +1,7 @@
 use Rattle.std.proofs.Common.{◌≡◌, ◌∙◌, ◌++◌, List, ℕ, ℤ, ap, codes, subst, to_z, of_z, w64}
 use Rattle.std.specs.Fmt.{digits, signed_decimal}
 use Rattle.vault_schema.specs.Versions.{newest, number_of}
-use Rattle.vault_jobs.specs.Told.{Tells}
+use Rattle.vault_live.specs.Told.{Tells}
 use Rattle.vault_app.proofs.report.tell_version.Goals as goal
 
 -- the newest version's text is in the line

@@ -12,7 +12,9 @@ do_on_file-requires g c = record { proper = has_lives c.in-Do.task (rw c.in-Do.i
 
 pub returns-in-Ok : goal.returns-in-Ok
 returns-in-Ok g c =
-    let world : World = world_at g.P.Paths (g.K.Timekeeper.tells c.args.time.now) c.args.paths in
+    let world : World = world_at g.P.Paths (g.K.Timekeeper.tells c.args.time.now)
+    (g.D.Desk.says c.args.desk.now)
+    c.args.paths in
     let told = c.check_file-checked.ensures in
     let is = checked world c.in-Check.path.now c.check_file-checked.result.1 c.check_file-checked.result.0
     told.empty told.refused told.refused_there told.sound told.spared told.tells told.same told.left in
@@ -36,7 +38,9 @@ returns-in_default g c =
 
 pub returns-in-Migrate : goal.returns-in-Migrate
 returns-in-Migrate g c =
-    let world : World = world_at g.P.Paths (g.K.Timekeeper.tells c.args.time.now) c.args.paths in
+    let world : World = world_at g.P.Paths (g.K.Timekeeper.tells c.args.time.now)
+    (g.D.Desk.says c.args.desk.now)
+    c.args.paths in
     let told = c.migrate_file-moved.ensures in
     let is = moved world c.in-Migrate.path.now c.migrate_file-moved.result.1 c.migrate_file-moved.result.0
     told.refused told.refused_there told.moved told.left told.tells told.stays told.same told.same_unmoved in

@@ -1,8 +1,9 @@
 use Rattle.std.proofs.Common.{◌≡◌, [], inl, inr, refl, subst}
-use Rattle.vault_jobs.specs.Streams.{streams, with_links}
+use Rattle.vault_jobs.specs.Streams.{streams, with_turns}
 use Rattle.vault_listen.proofs.ServedConnections.{none_then}
 use Rattle.vault_app.specs.Jobs.{DoesPlan}
 use Rattle.vault_app.specs.World.{World, world_at}
+use Rattle.vault_app.proofs.Looks.{looked_plan, looked_planless}
 use Rattle.vault_app.proofs.Unread.{unasked}
 use Rattle.vault_app.proofs.run.ended.Goals as goal
 
@@ -10,7 +11,9 @@ pub returns-in-Ok : goal.returns-in-Ok
 returns-in-Ok g c =
     let asked = c.in-Ok.ensures.planned.1 in
     let it = c.carry_out.ensures.does in
-    let world : World = world_at g.P.Paths (g.K.Timekeeper.tells c.args.time.now) c.args.paths in record {
+    let world : World = world_at g.P.Paths (g.K.Timekeeper.tells c.args.time.now)
+    (g.D.Desk.says c.args.desk.now)
+    c.args.paths in record {
       does = (
         it.0,
         it.1,
@@ -19,11 +22,12 @@ returns-in-Ok g c =
           asked.1,
           inl (
             c.in-Ok.plan,
-            asked.2,
+            looked_plan g.P.Paths (g.K.Timekeeper.tells c.args.time.now) (g.D.Desk.says c.args.desk.now)
+                c.args.paths asked.0 c.in-Ok.plan asked.2,
             c.in-Ok.ensures.proper,
             subst (λ o. DoesPlan world c.carry_out.result.1 c.in-Ok.plan c.carry_out.result.0
                 (c.carry_out.new.input ≡ c.args.input.now) (c.carry_out.new.output ≡ o)
-                (with_links (streams g.R.Read.remaining c.args.input.now c.carry_out.new.input
+                (with_turns (streams g.R.Read.remaining c.args.input.now c.carry_out.new.input
                 g.W.Write.contents o c.carry_out.new.output) it.0)) c.in-Ok.ensures.planned.0 it.2,
           ),
         ),
@@ -35,9 +39,10 @@ returns-in-Err g c = record {
   does = (
     [],
     none_then (g.N.Network.tells c.args.network.now),
-    elim c.in-Err.ensures.planless [
-      | inl h ↦ inl (h.0.0, h.0.1, inr (h.0.2, refl, refl, h.1))
-      | inr u ↦ inr (refl, unasked _ c.in-Err.ending _ _ refl u)
-    ],
+    elim (looked_planless g.P.Paths (g.K.Timekeeper.tells c.args.time.now) (g.D.Desk.says c.args.desk.now)
+        c.args.paths _ c.in-Err.ending _ c.in-Err.ensures.planless) [
+          | inl h ↦ inl (h.0.0, h.0.1, inr (h.0.2, refl, refl, h.1))
+          | inr u ↦ inr (refl, unasked _ c.in-Err.ending _ _ refl u)
+        ],
   );
 }

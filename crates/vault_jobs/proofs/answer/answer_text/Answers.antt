@@ -2,7 +2,7 @@ use Rattle.std.proofs.Common.{arith, length, sym, subst}
 use Rattle.std.specs.Io.KnownBytes.{Appends}
 use Rattle.std.proofs.lemmas.List.{take_all}
 use Rattle.vault_jobs.proofs.Flushing.{kept_after}
-use Rattle.vault_jobs.proofs.Telling.{of_ok}
+use Rattle.vault_live.proofs.Telling.{of_ok}
 use Rattle.vault_jobs.proofs.answer.answer_text.Goals as goal
 
 pub returns-then-is_err-2-clause-cut : goal.returns-then-is_err-2-clause-cut

@@ -34,10 +34,10 @@ returns-in-Pipe-clause-does g c =
 
 pub returns-in-Serve-clause-does : goal.returns-in-Serve-clause-does
 returns-in-Serve-clause-does g c = rw c.in-Serve.is (
-  c.do_serve.ensures.does.0,
-  c.do_serve.ensures.does.1,
-  serve_done c.in-Serve.port c.in-Serve.connections c.in-Serve.listed refl c.do_serve.ensures.breaks
-      c.do_serve.ensures.does.2,
+  c.serve_lists.ensures.does.0,
+  c.serve_lists.ensures.does.1,
+  serve_done c.in-Serve.port c.in-Serve.connections c.in-Serve.lists refl c.serve_lists.ensures.breaks
+      c.serve_lists.ensures.does.2,
 )
 
 pub returns-in-Settle-clause-does : goal.returns-in-Settle-clause-does
@@ -56,7 +56,8 @@ returns-in-SetMerchants-clause-does g c =
 
 pub do_set_merchants-requires-clause-lives : goal.do_set_merchants-requires-clause-lives
 do_set_merchants-requires-clause-lives g c =
-    subst (All HasLives) (sym c.deref-in-SetMerchants.ensures.value) (rw c.in-SetMerchants.is at c.requires.proper)
+    subst (All HasLives) (sym c.deref-in-SetMerchants.ensures.value)
+    (rw c.in-SetMerchants.is at c.requires.proper)
 
 pub returns-in-Show-clause-does : goal.returns-in-Show-clause-does
 returns-in-Show-clause-does g c =

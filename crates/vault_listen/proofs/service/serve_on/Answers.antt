@@ -9,19 +9,7 @@ use Rattle.vault_listen.proofs.JoinedConnections.{failed_in, kept_after, unaccep
 use Rattle.vault_listen.proofs.TimeJumps.{jumped_after}
 use Rattle.vault_listen.proofs.ServedConnections.{closed_then, links_then, lost_then, none_then, told_then}
 use Rattle.vault_listen.proofs.service.serve_on.Goals as goal
-use Rattle.vault_listen.proofs.service.serve_on.Goals.{in-Some+in_ok-serve_link, in_default-2}
-
-pub returns-in_default-clause-served : goal.returns-in_default-clause-served
-returns-in_default-clause-served g c = (
-  [],
-  (
-    refl,
-    kept_after (g.K.Timekeeper.tells c.args.time.now) g.T.Tables.is_honest g.T.Tables.holds
-        g.T.Tables.leaves g.met.T.Tables.settled [] c.args.vault.now c.args.vault.now refl (All-nil GoesOn),
-  ),
-  refl,
-  none_then (g.P.Peers.tells c.args.peers.now),
-)
+use Rattle.vault_listen.proofs.service.serve_on.Goals.{in-Some+in_ok-serve_link, in_default}
 
 pub loop-init : goal.loop-init
 loop-init g c = record {
@@ -71,7 +59,7 @@ loop-preserved g c =
             honest = λ h. inv.honest
                 (w.serve_link.ensures.disk_honest (subst (λ v. honest (tables_of v)) w.vault-is h));
           }
-      | in_default-2 w ↦ let lost : List (Option Link) = None ∷ [] in record {
+      | in_default w ↦ let lost : List (Option Link) = None ∷ [] in record {
         links = inv.links ++ None ∷ [];
         count = omega (arith, inv.count, length-append inv.links lost);
         told = subst (λ p. (log : _) → tells c.args.peers.now log
@@ -79,7 +67,7 @@ loop-preserved g c =
             (told_then (tells c.args.peers.now) (tells c.loop.peers) (tells c.accept.new.self) inv.links None
             inv.told
             (lost_then remaining contents (tells c.loop.peers) (tells c.accept.new.self)
-            c.in_ok-link.field-0 w.in_default-2.is c.in_ok-link.ensures.comes));
+            c.in_ok-link.field-0 w.in_default.is c.in_ok-link.ensures.comes));
         served = subst (λ v. AreLinks (g.K.Timekeeper.tells c.args.time.now) honest holds leaves
             (inv.links ++ None ∷ []) v0 v) (sym w.vault-is)
             (links_then (g.K.Timekeeper.tells c.args.time.now) honest holds leaves inv.links
@@ -185,7 +173,7 @@ returns-then-has_jumped-clause-served g c =
           (closed_then remaining contents (tells p1) (tells c.accept.new.self)
           (tells w.serve_link.new.peers) c.in_ok-link.field-0 w.in-Some.link x w.in-Some.is
           c.in_ok-link.ensures.comes it.2))
-      | in_default-2 w ↦
+      | in_default w ↦
           jumped_after at honest holds leaves g.met.T.Tables.settled tells c.args.connections inv.links
           None v0 v1 v2 c.args.peers.now p1 p2 few inv.on tt inv.served
           (subst (λ v. AreLinks at honest holds leaves (None ∷ []) v1 v) (sym w.vault-is) refl)
@@ -193,5 +181,5 @@ returns-then-has_jumped-clause-served g c =
           (subst (λ p. (log : _) → tells p1 log → tells p (log ++ events_of (None ∷ [])))
           (sym w.peers-is)
           (lost_then remaining contents (tells p1) (tells c.accept.new.self)
-          c.in_ok-link.field-0 w.in_default-2.is c.in_ok-link.ensures.comes))
+          c.in_ok-link.field-0 w.in_default.is c.in_ok-link.ensures.comes))
     ]

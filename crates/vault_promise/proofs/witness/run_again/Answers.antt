@@ -1,24 +1,24 @@
 use Rattle.std.proofs.Common.{refl, map}
-use Rattle.vault_jobs.specs.Streams.{streams, with_links}
+use Rattle.vault_jobs.specs.Streams.{streams, with_turns}
 use Rattle.vault_promise.proofs.witness.run_again.Goals as goal
 
 pub returns : goal.returns
 returns g c image moments so found =
-    let (told, links, came, does) = c.run.ensures.does in (
+    let (told, turns, came, does) = c.run.ensures.does in (
       record {
         begins = image;
         words = map g.A.AsStr.text c.args.words.now;
         moments = moments;
         ending = does.ending;
-        streams = with_links (streams g.R.Read.remaining c.args.input.now c.run.new.input
-            g.W.Write.contents c.args.output.now told) links;
+        streams = with_turns (streams g.R.Read.remaining c.args.input.now c.run.new.input
+            g.W.Write.contents c.args.output.now told) turns;
       },
       refl,
       refl,
       record {
         left = c.run.result.1;
         told = told;
-        links = links;
+        turns = turns;
         came = came;
         does = does;
         is = refl;
@@ -27,6 +27,7 @@ returns g c image moments so found =
         leaves = λ next leaves. leaves;
       },
       λ next leaves. c.promise_is_kept.ensures.each image next c.run.result.1 _ c.run.result.0 c.args.time.now
-          c.args.paths moments links c.args.input.now c.run.new.input c.args.output.now told c.run.new.output
+          c.args.desk.now c.args.paths moments turns c.args.input.now c.run.new.input c.args.output.now told
+          c.run.new.output
           c.args.errors.now c.run.new.errors so does found leaves,
     )

@@ -19,7 +19,7 @@ returns-in-Some-clause-follows g c =
       record {
         left = call.left;
         told = call.told;
-        links = call.links;
+        turns = call.turns;
         came = call.came;
         does = call.does;
         is = call.is;

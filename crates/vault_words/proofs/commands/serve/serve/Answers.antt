@@ -9,4 +9,6 @@ returns c =
     let h₂ = c.add-command-2.ensures _ _ h₁ port in
     let rights = c.text_after-rights.ensures in
     let h₃ = c.add-command-3.ensures _ _ h₂ rights in
-    c.add.ensures _ _ h₃ c.file.ensures
+    let merchants = c.text_after-merchants.ensures in
+    let h₄ = c.add-command-4.ensures _ _ h₃ merchants in
+    c.add.ensures _ _ h₄ c.file.ensures

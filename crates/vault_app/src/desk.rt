@@ -1,0 +1,32 @@
+//! The files of the host that a service follows.
+use std::fs;
+use vault_live::desk::Desk;
+
+/// The most bytes of a list that is followed: 16 MiB.
+const MOST: u64 = 16_777_216;
+
+/// The files of the host. Only a regular file of at most 16 MiB is read: a pipe might never end.
+#[derive(Drop)]
+pub struct HostDesk<'h> {
+    rt: &'h HostRuntime,
+}
+
+impl<'h> HostDesk<'h> {
+    /// The files of this host.
+    pub fn new(rt: &'h HostRuntime) -> HostDesk<'h> {
+        HostDesk { rt }
+    }
+}
+
+/// Nothing is told: no clause can say what a file of the host holds.
+impl<'h> Desk for HostDesk<'h> {
+    ghost says = { λ _ _ _ _. Unit {0} };
+
+    fn read(&self, path: &str, _look: u64) -> Option<Vec<u8>> {
+        let found = fs::metadata(self.rt, path).ok()?;
+        if !found.is_file() || found.len() > MOST {
+            return None;
+        }
+        fs::read(self.rt, path).ok()
+    }
+}

@@ -1,0 +1,58 @@
+use Rattle.std.proofs.Common.{◌≡◌, ◌⊎◌, false, true}
+use Rattle.std.specs.Option.{option_map_or}
+use Rattle.std.specs.Prelude.{IsSomeAnd}
+use Rattle.vault_merchants.specs.Listed.{AreListed}
+use Rattle.vault_listen.specs.Peers.{vault_passing}
+use Rattle.vault_live.specs.Following.{AreRowsIn, Asks}
+use Rattle.vault_live.specs.Kinds.{merchants_changes, rights_changes}
+use Rattle.vault_live.specs.Turns.{Asking}
+use Rattle.vault_jobs.proofs.Followed.{acts_not, asks_as, neither, not_first, not_second}
+use Rattle.vault_jobs.specs.Doing.{ServeEnds}
+use Rattle.vault_jobs.specs.Lists.{follows, path_of}
+use Rattle.vault_jobs.proofs.serving.serve_following.Given.{Over}
+use Rattle.vault_jobs.proofs.serving.serve_following.Goals.{After-serve_at}
+use Rattle.vault_jobs.proofs.serving.serve_following.Goals as goal
+
+pub returns-clause-does : goal.returns-clause-does
+returns-clause-does g c =
+    let does = c.serve_at.ensures.does in
+    let tells = g.K.Timekeeper.tells c.args.time.now in
+    let says = g.D.Desk.says in
+    let ends : Asking → Type 0 = λ asks. ServeEnds tells asks c.args.port c.args.connections
+    (vault_passing g.T.Tables.is_honest g.T.Tables.holds g.T.Tables.leaves c.args.vault.now
+    c.serve_at.new.vault) c.serve_at.result
+    (c.serve_at.new.output ≡ c.args.output.now) (g.W.Write.contents c.args.output.now.inner)
+    (g.W.Write.contents c.serve_at.new.output.inner) c.serve_at.new.output.stopped does.0 in
+    let lists = c.args.lists.now in
+    let first = asks_as (λ f. f.desk.now) (λ f. f.path.now) (λ it. path_of it) c.args.desk.now
+    c.office_of.result.office lists.merchants c.office_of.ensures.desk c.office_of.ensures.path
+    (λ d p V cs. Asks AreListed merchants_changes (says d p) tells V cs)
+    (λ asks. ends (λ V cs. asks V cs ⊎ IsSomeAnd c.office_of-2.result.office
+    (λ f. Asks AreRowsIn rights_changes (says f.desk.now f.path.now) tells V cs))) does.2 in
+    let both = asks_as (λ f. f.desk.now) (λ f. f.path.now) (λ it. path_of it) c.args.desk.now
+    c.office_of-2.result.office lists.rights c.office_of-2.ensures.desk c.office_of-2.ensures.path
+    (λ d p V cs. Asks AreRowsIn rights_changes (says d p) tells V cs)
+    (λ asks. ends (λ V cs. IsSomeAnd lists.merchants
+    (λ it. Asks AreListed merchants_changes (says c.args.desk.now (path_of it)) tells V cs) ⊎ asks V cs))
+    first in
+    (does.0, does.1, both)
+
+module _ (g : Over) (c : After-serve_at g) (none : follows c.args.lists.now ≡ false) where
+  -- where nothing is followed, neither office acts
+  idle_first : option_map_or (λ f. true) c.office_of.result.office false ≡ false
+  idle_first = acts_not (λ f. f.path.now) (λ it. path_of it) c.office_of.result.office
+      c.args.lists.now.merchants c.office_of.ensures.path (λ f. true) (not_first _ _ none)
+
+  idle_second : option_map_or (λ f. true) c.office_of-2.result.office false ≡ false
+  idle_second = acts_not (λ f. f.path.now) (λ it. path_of it) c.office_of-2.result.office
+      c.args.lists.now.rights c.office_of-2.ensures.path (λ f. true) (not_second _ _ none)
+
+pub returns-clause-store : goal.returns-clause-store
+returns-clause-store g c = λ none.
+    let it = (goal.at.returns-clause-store g c).After-serve_at in
+    c.serve_at.ensures.store (neither _ _ (idle_first g it none) (idle_second g it none))
+
+pub returns-clause-writer_ok : goal.returns-clause-writer_ok
+returns-clause-writer_ok g c = λ none.
+    let it = (goal.at.returns-clause-writer_ok g c).After-serve_at in
+    c.serve_at.ensures.writer_ok (neither _ _ (idle_first g it none) (idle_second g it none))

@@ -1,0 +1,128 @@
+//! A vault served on a port, with the lists that are followed.
+ghost use Rattle.std.specs.Prelude.{◌≡◌, ◌++◌, All, IfSome, List, false, true};
+ghost use Rattle.vault_store.specs.Applied.{is_broken, tables_of};
+ghost use Rattle.vault_wire.specs.Watching.{inner_of, is_stopped};
+ghost use Rattle.vault_engine.specs.Passing.{Passage};
+ghost use Rattle.vault_listen.specs.Peers.{Event, vault_passing};
+ghost use Rattle.vault_changes.specs.Settings.{HasLives};
+ghost use Rattle.vault_live.specs.Turns.{Turn, events_in};
+ghost use Rattle.vault_jobs.specs.Doing.{EndsUnfailed, ListedServeEnds, ServeEnds};
+ghost use Rattle.vault_jobs.specs.Lists.{asked_of, follows};
+ghost use Rattle.vault_jobs.specs.Outside.{outside};
+ghost use Rattle.vault_jobs.specs.Tasks.{BreaksBy, BreaksTask, FailsStore};
+ghost use Rattle.vault_jobs.specs.declared.task.Task.{Task};
+
+use crate::beginning::begin;
+use crate::listening::serve_at;
+use crate::lists::{Lists, office_of, text_of};
+use crate::stop::Stop;
+use crate::task::Outcome;
+use std::io::Write;
+use vault_listen::network::Network;
+use vault_listen::time::Timekeeper;
+use vault_live::both::{Both, BothKept};
+use vault_live::desk::Desk;
+use vault_live::merchants::Merchants;
+use vault_live::remembered::Remembered;
+use vault_live::rights::Rights;
+use vault_store::tables::Tables;
+use vault_store::vault::Vault;
+use vault_wire::watched::Watched;
+
+/// Serves connections, and carries out between them what the lists ask for as they change.
+fn serve_following<K: Timekeeper, N: Network, D: Desk, W: Write, T: Tables>(
+    rt: &HostRuntime,
+    time: &K,
+    network: &mut N,
+    desk: &D,
+    port: u16,
+    connections: u64,
+    lists: &Lists,
+    vault: &mut Vault<T>,
+    output: &mut Watched<W>,
+) -> Result<Outcome, Stop>
+    // the vault isn't broken
+    requires { is_broken vault.old ≡ false }
+    // it said its port, and its turns are those that the network tells of; or there was none, and on an
+    // honest disk the vault stayed
+    ensures does { let w : Passage = vault_passing T.is_honest T.holds T.leaves vault.old vault.new in
+        (turns : List Turn)
+        × ((log : List Event) → N.tells network.old log → N.tells network.new (log ++ events_in turns))
+        × ServeEnds (K.tells time.now) (asked_of (outside (K.tells time.now) (D.says desk.now)) lists.now)
+        port connections w result (output.new ≡ output.old) (W.contents (inner_of output.old))
+        (W.contents (inner_of output.new)) (is_stopped output.new) turns }
+    // the vault is broken only where the store failed
+    ensures broken { BreaksTask vault.new result }
+    // and there always, where nothing is followed
+    ensures store { follows lists.now ≡ false → FailsStore result → is_broken vault.new ≡ true }
+    // and then, with Done, the writer hasn't failed
+    ensures writer_ok { follows lists.now ≡ false → EndsUnfailed result (is_stopped output.new) }
+    // a disk that is honest after the call was so before it
+    ensures disk_honest { T.is_honest (tables_of vault.new) → T.is_honest (tables_of vault.old) }
+{
+    let office = Both {
+        first: office_of::<D, Merchants>(rt.alloc(), desk, &lists.merchants),
+        second: office_of::<D, Rights>(rt.alloc(), desk, &lists.rights),
+    };
+    let mut kept = BothKept {
+        first: Remembered::new(text_of(&lists.merchants)),
+        second: Remembered::new(text_of(&lists.rights)),
+    };
+    serve_at(
+        rt,
+        time,
+        network,
+        port,
+        connections,
+        &office,
+        &mut kept,
+        vault,
+        output,
+    )
+}
+
+/// Serves connections. What the lists ask for is carried out before it listens, and again whenever they
+/// change.
+pub(crate) fn serve_lists<K: Timekeeper, N: Network, D: Desk, W: Write, T: Tables>(
+    rt: &HostRuntime,
+    time: &K,
+    network: &mut N,
+    desk: &D,
+    port: u16,
+    connections: u64,
+    lists: &Lists,
+    vault: &mut Vault<T>,
+    output: &mut Watched<W>,
+) -> Result<Outcome, Stop>
+    // the lives of the merchants are lives
+    requires lives { IfSome lists.now.merchants (λ it. All HasLives it.rows.items) }
+    requires unbroken { is_broken vault.old ≡ false }
+    // what the lists ask for is done before it listens, or there was no turn; from the vault that this leaves
+    // it ends as a service
+    ensures does { let w : Passage = vault_passing T.is_honest T.holds T.leaves vault.old vault.new in
+        (turns : List Turn)
+        × ((log : List Event) → N.tells network.old log → N.tells network.new (log ++ events_in turns))
+        × ListedServeEnds (outside (K.tells time.now) (D.says desk.now)) port connections lists.now w
+        (is_broken vault.new) result (output.new ≡ output.old) (W.contents (inner_of output.old))
+        (W.contents (inner_of output.new)) (is_stopped output.new) turns }
+    // the vault is broken only where the store failed, and there always, unless a list is followed
+    ensures breaks { BreaksBy (Task.Serve port connections lists.now) result (is_broken vault.new) }
+    // a disk that is honest after the call was so before it
+    ensures disk_honest { T.is_honest (tables_of vault.new) → T.is_honest (tables_of vault.old) }
+{
+    match begin(rt.alloc(), vault, lists) {
+        Ok(Ok(())) => serve_following(
+            rt,
+            time,
+            network,
+            desk,
+            port,
+            connections,
+            lists,
+            vault,
+            output,
+        ),
+        Ok(Err(number)) => Ok(Outcome::Refused(number)),
+        Err(fault) => Err(Stop::Vault(fault)),
+    }
+}

@@ -1,0 +1,7 @@
+pub mod Attending
+pub mod ProperChanges
+pub mod ProperSettings
+pub mod Stepping
+pub mod Telling
+pub mod Turning
+pub mod Unaccepted

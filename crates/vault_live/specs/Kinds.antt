@@ -1,0 +1,59 @@
+-- Kinds of lists that are followed: which rows a text names, and which commands they ask for.
+use Rattle.std.specs.Prelude.{◌≡◌, ℕ, All, List, true}
+use Rattle.vault_core.specs.Proper.{AllProper}
+use Rattle.vault_core.specs.Table.{after, reply}
+use Rattle.vault_core.specs.Vault.{Vault as Content}
+use Rattle.vault_core.specs.declared.command.Command.{Command}
+use Rattle.vault_core.specs.declared.reply.Reply.TheVariants as answer
+use Rattle.vault_merchants.specs.Faults as merchants
+use Rattle.vault_merchants.specs.Listed.{Wanted}
+use Rattle.vault_merchants.specs.declared.fault.MerchantsFault.{MerchantsFault}
+use Rattle.vault_refusal.specs.Refusal.{number_of}
+use Rattle.vault_refusal.specs.declared.refusal.Refusal.TheVariants.{NoMerchant}
+use Rattle.vault_rights.specs.Faults as rights
+use Rattle.vault_rights.specs.Named.{Row}
+use Rattle.vault_rights.specs.declared.fault.RightsFault.{RightsFault}
+use Rattle.vault_store.specs.Listed.{merchant_rows}
+use Rattle.vault_changes.specs.Changes.{changes_at, rights_of}
+use Rattle.vault_changes.specs.Settings.{settings_at}
+use Rattle.vault_live.specs.Known.{lacks_merchant}
+
+-- which rows a text names
+abbrev pub Naming : Type 0 → Type 1
+Naming X = List ℕ → List X → Type 0
+
+-- which commands rows ask for at a moment, by the vault that is held
+abbrev pub Wanting : Type 0 → Type 0
+Wanting X = ℕ → List X → Content → List Command
+
+-- a vault that refuses the command is left as it was
+abbrev pub KeepsRefused : Command → Type 0
+KeepsRefused c = (V : Content) (n : ℕ) → reply V c ≡ answer.Refused n → after V c ≡ V
+
+-- the commands are proper, and a vault that refuses one of them is left as it was
+pub record AreSteps (cs : List Command) : Type 0 where
+  pub proper : AllProper cs
+  pub keeps : All KeepsRefused cs
+
+-- the text has a fault as a list of rights, which has this number
+abbrev pub HasRightsFault : List ℕ → ℕ → Type 0
+HasRightsFault text number = (fault : RightsFault) × rights.IsFault text fault
+    × (number ≡ number_of (rights.refusal_of fault))
+
+-- the same as a list of merchants
+abbrev pub HasMerchantsFault : List ℕ → ℕ → Type 0
+HasMerchantsFault text number = (fault : MerchantsFault) × merchants.IsFault text fault
+    × (number ≡ number_of (merchants.refusal_of fault))
+
+-- the commands that make the rights exactly those of the rows
+abbrev pub rights_changes : Wanting Row
+rights_changes now rows V = changes_at true now rows (rights_of V)
+
+-- the commands that set the merchants of the rows that aren't held so
+abbrev pub merchants_changes : Wanting Wanted
+merchants_changes now rows V = settings_at now rows (merchant_rows V)
+
+-- the vault lacks the merchant of a row, which has this number
+abbrev pub LacksMerchant : List Row → Content → ℕ → Type 0
+LacksMerchant rows V number =
+    (lacks_merchant (merchant_rows V) rows ≡ true) × (number ≡ number_of NoMerchant)

@@ -1,0 +1,10 @@
+pub mod Carrying
+pub mod First
+pub mod Following
+pub mod Kinds
+pub mod Known
+pub mod Listed
+pub mod News
+pub mod Subject
+pub mod Told
+pub mod Turns

@@ -1,0 +1,58 @@
+-- What is said of a list that is followed.
+use Rattle.std.specs.Prelude.{◌≡◌, ◌==◌, ℕ, Bool, true, false, List, [], ◌++◌, codes, decimal, filter}
+use Rattle.std.specs.Prelude.{length}
+use Rattle.vault_changes.specs.Grants.{AreDone}
+use Rattle.vault_core.specs.Runs.{run}
+use Rattle.vault_core.specs.Vault.{Vault as Content}
+use Rattle.vault_core.specs.declared.command.Command.{Command}
+use Rattle.vault_core.specs.declared.command.Command.TheVariants.{Grant, SetMerchant, Withdraw}
+use Rattle.vault_refusal.specs.Refusal.{number_of}
+use Rattle.vault_refusal.specs.declared.refusal.Refusal.TheVariants.{NoMerchant}
+use Rattle.vault_live.specs.Subject.{name_of}
+use Rattle.vault_live.specs.declared.news.News.{News}
+use Rattle.vault_live.specs.declared.news.News.TheVariants.{Nothing, Changed, Set, Refused, Unread}
+
+-- the end of a line, which says when
+abbrev pub at_text : ℕ → List ℕ
+at_text now = codes " at " ++ decimal now ++ codes "\n"
+
+-- the line that says it; there is none of nothing
+abbrev pub line_of : News → List ℕ
+line_of Nothing = []
+line_of (Changed given withdrawn now) =
+    codes "rights granted " ++ decimal given ++ codes " withdrawn " ++ decimal withdrawn ++ at_text now
+line_of (Set count now) = codes "merchants set " ++ decimal count ++ at_text now
+line_of (Refused about number now) = name_of about ++ codes " refused " ++ decimal number ++ at_text now
+line_of (Unread about now) = name_of about ++ codes " unread" ++ at_text now
+
+-- whether it says that a list is refused for want of a merchant
+abbrev pub wants_merchant : News → Bool
+wants_merchant (Refused about number now) = number == number_of NoMerchant
+wants_merchant news = false
+
+-- whether a command gives a right
+abbrev pub gives : Command → Bool
+gives (Grant caller m right until now) = true
+gives c = false
+
+-- whether it withdraws one
+abbrev pub withdraws : Command → Bool
+withdraws (Withdraw caller m right now) = true
+withdraws c = false
+
+-- whether it sets a merchant
+abbrev pub sets : Command → Bool
+sets (SetMerchant m single multi lead now) = true
+sets c = false
+
+-- What is said of commands that were carried out from a vault. Nothing is said of none. All were done, and
+-- so many of them gave and withdrew rights, or set merchants. Or the list is refused, or can't be read, and
+-- nothing changed.
+abbrev pub IsSaidOf : News → Content → List Command → Type 0
+IsSaidOf Nothing V cs = cs ≡ []
+IsSaidOf (Changed given withdrawn now) V cs =
+    (given ≡ length (filter gives cs)) × (withdrawn ≡ length (filter withdraws cs))
+    × AreDone (length cs) cs V
+IsSaidOf (Set count now) V cs = (count ≡ length (filter sets cs)) × AreDone (length cs) cs V
+IsSaidOf (Refused about number now) V cs = run cs V ≡ V
+IsSaidOf (Unread about now) V cs = cs ≡ []

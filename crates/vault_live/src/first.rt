@@ -1,0 +1,89 @@
+//! The first of some commands, carried out one by one.
+ghost use Rattle.std.specs.Prelude.{◌≡◌, ◌≤◌, All, false, length, true};
+ghost use Rattle.vault_store.specs.Applied.{is_broken, tables_of};
+ghost use Rattle.vault_engine.specs.Passing.{Passage};
+ghost use Rattle.vault_listen.specs.Peers.{vault_passing};
+ghost use Rattle.vault_changes.specs.Carried.{IsCarriedOut};
+ghost use Rattle.vault_live.specs.First.{Ends};
+
+use vault_changes::change::change;
+use vault_core::command::Command;
+use vault_store::tables::Tables;
+use vault_store::vault::{Fault, Vault};
+
+/// How many commands are carried out between two connections at most.
+const MOST: usize = 100;
+
+/// Why no more commands were carried out.
+#[derive(Clone, Copy, Debug, PartialEq, Eq, Drop)]
+pub(crate) enum End {
+    /// All of them are done.
+    All,
+    /// As many are done as may be between two connections.
+    Enough,
+    /// The next one is refused by this number.
+    Refused(u8),
+    /// Memory was refused for the next one.
+    Memory,
+    /// The store failed at the next one.
+    Store,
+}
+
+/// How many of some commands are done, and why no more.
+#[derive(Clone, Copy, Debug, PartialEq, Eq, Drop)]
+pub(crate) struct Carried {
+    pub(crate) done: usize,
+    pub(crate) end: End,
+}
+
+/// Carries out the first of these commands, 100 at most, up to one that is refused.
+pub(crate) fn carry_first<T: Tables>(vault: &mut Vault<T>, commands: &[Command]) -> Carried
+    // every vault replies to each command by done or a refusal, and lives that it sets are in range
+    requires carried { All IsCarriedOut commands.now }
+    requires unbroken { is_broken vault.old ≡ false }
+    // the first so many are done, and the vault that they leave is kept; the next one ended it, where they
+    // aren't all or enough
+    ensures ends { let w : Passage = vault_passing T.is_honest T.holds T.leaves vault.old vault.new in
+        Ends result.end result.done commands.now w }
+    // no more are done than there are
+    ensures few { result.done ≤ length commands.now }
+    // the vault is broken only where the store failed
+    ensures broken { is_broken vault.new ≡ true → result.end ≡ End.Store }
+    // a disk that is honest after the call was so before it
+    ensures disk_honest { T.is_honest (tables_of vault.new) → T.is_honest (tables_of vault.old) }
+{
+    let mut done = 0;
+    for command in commands {
+        if done == MOST {
+            return Carried {
+                done,
+                end: End::Enough,
+            };
+        }
+        match change(vault, command) {
+            Ok(Ok(())) => done += 1,
+            Ok(Err(number)) => {
+                return Carried {
+                    done,
+                    end: End::Refused(number),
+                };
+            }
+            Err(Fault::Memory) => return Carried {
+                done,
+                end: End::Memory,
+            },
+            Err(Fault::Store) => return Carried {
+                done,
+                end: End::Store,
+            },
+            Err(Fault::Reopen) => return Carried {
+                done,
+                end: End::Store,
+            },
+        }
+    }
+    Carried {
+        done,
+        end: End::All,
+    }
+}

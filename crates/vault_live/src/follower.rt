@@ -1,0 +1,130 @@
+//! When a text that is followed is taken.
+ghost use Rattle.std.specs.Prelude.{◌≡◌, ◌⊎◌, IsTrue, None, Some};
+ghost use Rattle.std.specs.Bool.{Decides};
+ghost use Rattle.vault_live.specs.Following.{MayFollow, has_end as has_end_line, in_force, pending_of};
+ghost use Rattle.vault_live.specs.Following.{text_in};
+
+/// A text that is followed: the one in force, one that was refused, and the one of the last look where it is
+/// another.
+#[derive(Drop)]
+pub struct Followed<'x> {
+    /// The text that was in force before the first look.
+    pub(crate) began: &'x [u8],
+    /// The one that was taken last since, where one was.
+    pub(crate) taken: Option<Vec<u8>>,
+    /// The one that was refused, where the looks since saw no other.
+    refused: Option<Vec<u8>>,
+    /// The one of the last look, where it is neither.
+    pub(crate) pending: Option<Vec<u8>>,
+}
+
+/// Whether a text that is kept is this one.
+fn is_same(text: &Option<Vec<u8>>, other: &Vec<u8>) -> bool
+    ensures { Decides result (text_in text.now ≡ Some other.now.items) }
+{
+    match text {
+        Some(text) => text == other,
+        None => false,
+    }
+}
+
+/// The line that ends a list, behind others and by itself.
+const END: &[u8] = b"\n# end\n";
+
+const ONLY_END: &[u8] = b"# end\n";
+
+/// Whether the last line of a text is that line.
+pub fn has_end(text: &[u8]) -> bool
+    ensures { result ≡ has_end_line text.now }
+{
+    text.ends_with(END) || text == ONLY_END
+}
+
+impl<'x> Followed<'x> {
+    /// One that begins with a text that is in force.
+    pub fn new(began: &'x [u8]) -> Followed<'x>
+        ensures force { in_force result ≡ began.now }
+        ensures none { pending_of result ≡ None }
+    {
+        Followed {
+            began,
+            taken: None,
+            refused: None,
+            pending: None,
+        }
+    }
+
+    /// The text in force.
+    fn text(&self) -> &[u8]
+        ensures { result.now ≡ in_force self.now }
+    {
+        match &self.taken {
+            Some(text) => text.as_slice(),
+            None => self.began,
+        }
+    }
+
+    /// Whether this text may follow the one in force: where that ends with a line `# end`, it does too.
+    fn may_follow(&self, text: &[u8]) -> bool
+        ensures { IsTrue result → MayFollow (in_force self.now) text.now }
+    {
+        !has_end(self.text()) || has_end(text)
+    }
+
+    /// Whether a text that a look found is settled and new: the look before saw it too, it is neither the one
+    /// in force nor the one that was refused, and it has the last line of the one in force where that is
+    /// `# end`.
+    pub(crate) fn is_settled(&self, text: &Vec<u8>) -> bool
+        // it was the file's at the look before
+        ensures before { IsTrue result → pending_of self.now ≡ Some text.now.items }
+        // it isn't cut short, where the one in force tells
+        ensures whole { IsTrue result → MayFollow (in_force self.now) text.now.items }
+    {
+        self.text() != text.as_slice() && is_same(&self.pending, text) && self.may_follow(text)
+    }
+
+    /// A look found this text, which isn't settled and new: it waits to be seen again, where it is neither
+    /// the one in force nor the one that was refused.
+    pub(crate) fn wait(&mut self, text: Vec<u8>)
+        ensures force { in_force self.new ≡ in_force self.old }
+        // what waits to be seen again is this text, or nothing
+        ensures pending { (pending_of self.new ≡ None) ⊎ (pending_of self.new ≡ Some text.items) }
+    {
+        self.pending = None;
+        if is_same(&self.refused, &text) {
+            return;
+        }
+        self.refused = None;
+        if self.text() != text.as_slice() {
+            self.pending = Some(text);
+        }
+    }
+
+    /// A settled text is a good list: it is in force.
+    pub(crate) fn take(&mut self, text: Vec<u8>)
+        ensures force { in_force self.new ≡ text.items }
+        ensures none { pending_of self.new ≡ None }
+    {
+        self.pending = None;
+        self.refused = None;
+        self.taken = Some(text);
+    }
+
+    /// A settled text is no good list: the one in force stays, and this one isn't looked into again until
+    /// another was seen.
+    pub(crate) fn refuse(&mut self, text: Vec<u8>)
+        ensures force { in_force self.new ≡ in_force self.old }
+        ensures none { pending_of self.new ≡ None }
+    {
+        self.pending = None;
+        self.refused = Some(text);
+    }
+
+    /// The file wasn't read: what comes next has to be seen twice.
+    pub(crate) fn lose(&mut self)
+        ensures force { in_force self.new ≡ in_force self.old }
+        ensures none { pending_of self.new ≡ None }
+    {
+        self.pending = None;
+    }
+}

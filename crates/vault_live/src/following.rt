@@ -1,0 +1,223 @@
+//! The office that follows a file of a list.
+ghost use Rattle.std.specs.Prelude.{◌≡◌, ◌⊎◌, Err, IfOk, false, if◌then◌else◌, true};
+ghost use Rattle.vault_store.specs.Applied.{is_broken, tables_of};
+ghost use Rattle.vault_engine.specs.Passing.{Passage};
+ghost use Rattle.vault_listen.specs.Peers.{vault_passing};
+ghost use Rattle.vault_listen.specs.declared.fault.ListenFault.TheVariants.{Store};
+ghost use Rattle.vault_live.specs.Carrying.{AsksAt};
+ghost use Rattle.vault_live.specs.Following.{Remembers};
+ghost use Rattle.vault_live.specs.News.{wants_merchant};
+ghost use Rattle.vault_live.specs.Turns.{Attends};
+
+use crate::carrying::carry_list;
+use crate::desk::Desk;
+use crate::kind::Kind;
+use crate::listed::{Listed, take_list};
+use crate::news::News;
+use crate::office::Office;
+use crate::remembered::Remembered;
+use std::alloc::Global;
+use std::marker::PhantomData;
+use std::time::Duration;
+use vault_core::moment::Moment;
+use vault_listen::fault::ListenFault;
+use vault_listen::time::{Questions, Timekeeper};
+use vault_refusal::refusal::Refusal;
+use vault_store::tables::Tables;
+use vault_store::vault::Vault;
+
+/// How many milliseconds pass between two looks at least.
+const PAUSE: u64 = 500;
+
+/// The time by a clock that nobody sets, where the next look is due: half a second after the last one. It
+/// isn't where that clock can't be read.
+fn due<Q: Questions>(last: Option<Duration>, questions: &Q) -> Option<Duration> {
+    let now = questions.passed().ok()?;
+    match last {
+        Some(last) if now.saturating_sub(last) < Duration::from_millis(PAUSE) => None,
+        _ => Some(now),
+    }
+}
+
+/// The rows that wait for a merchant: these, where it is said that they are refused for want of one.
+fn waiting<R: Drop>(news: &News, rows: Vec<R>) -> Option<Vec<R>>
+    ensures { result ≡ (if wants_merchant news.now then Some rows else None) }
+{
+    match news {
+        News::Refused(_, number, _) if *number == Refusal::NoMerchant.number() => Some(rows),
+        _ => None,
+    }
+}
+
+/// What there is to do, or to say.
+#[derive(Clone, Copy, Debug, PartialEq, Eq, Drop)]
+enum Found {
+    /// Nothing.
+    Nothing,
+    /// The file can't be read, and at the look before it could.
+    Unread,
+    /// A new text is no good list, and is refused by this number.
+    Faulty(u8),
+    /// There are rows whose changes aren't all done.
+    Rows,
+}
+
+/// Follows a file of a list. A text that the file has at two looks in a row, and that is a good list, is
+/// carried out.
+#[derive(Drop)]
+pub struct Following<'x, D, L> {
+    alloc: Global,
+    desk: &'x D,
+    path: &'x str,
+    kind: PhantomData<L>,
+}
+
+impl<'x, D: Desk, L: Kind> Following<'x, D, L> {
+    /// Follows the file at this path.
+    pub fn new(alloc: Global, desk: &'x D, path: &'x str) -> Following<'x, D, L>
+        ensures desk { result.desk.now ≡ desk.now }
+        ensures path { result.path.now ≡ path.now }
+    {
+        Following {
+            alloc,
+            desk,
+            path,
+            kind: PhantomData,
+        }
+    }
+
+    /// Looks at the file. Rows of a text that is settled, and new, are kept.
+    fn look(&self, kept: &mut Remembered<'x, L::Row>) -> Found
+        // what is remembered is of this file
+        requires { Remembers L.names (D.says self.now.desk.now self.now.path.now) kept.old }
+        // what is remembered is of this file still
+        ensures { Remembers L.names (D.says self.now.desk.now self.now.path.now) kept.new }
+    {
+        let look = kept.look;
+        let Some(next) = look.checked_add(1) else {
+            return Found::Nothing;
+        };
+        kept.look = next;
+        let Some(text) = self.desk.read(self.path, look) else {
+            kept.list.lose();
+            if kept.unread {
+                return Found::Nothing;
+            }
+            kept.unread = true;
+            return Found::Unread;
+        };
+        kept.unread = false;
+        match take_list::<L>(self.alloc, &mut kept.list, text) {
+            Listed::Unknown => Found::Nothing,
+            Listed::Faulty(number) => Found::Faulty(number),
+            Listed::Good(rows) => {
+                kept.rows = Some(rows);
+                kept.waiting = None;
+                Found::Rows
+            }
+        }
+    }
+
+    /// What there is to do now: the rows that are kept; else what a look at the file finds, where it is due.
+    fn next<Q: Questions>(&self, kept: &mut Remembered<'x, L::Row>, questions: &Q) -> Found
+        // what is remembered is of this file
+        requires { Remembers L.names (D.says self.now.desk.now self.now.path.now) kept.old }
+        // what is remembered is of this file still
+        ensures { Remembers L.names (D.says self.now.desk.now self.now.path.now) kept.new }
+    {
+        if kept.rows.is_some() {
+            return Found::Rows;
+        }
+        let Some(now) = due(kept.last, questions) else {
+            return Found::Nothing;
+        };
+        kept.last = Some(now);
+        self.look(kept)
+    }
+
+    /// Carries out the first changes of the rows that are kept. They are kept on where some are left. Where
+    /// the vault lacks a merchant of them, they wait to be tried again.
+    ///
+    /// 63 Store: the store failed.
+    fn carry<T: Tables>(
+        &self,
+        kept: &mut Remembered<'x, L::Row>,
+        now: Moment,
+        vault: &mut Vault<T>,
+    ) -> Result<News, ListenFault>
+        // what is remembered is of this file
+        requires remembers { Remembers L.names (D.says self.now.desk.now self.now.path.now) kept.old }
+        requires unbroken { is_broken vault.old ≡ false }
+        // the first of the changes are carried out, this is said of them, and the vault that they leave is
+        // kept; with Store a crash decides on one more
+        ensures attends { let w : Passage = vault_passing T.is_honest T.holds T.leaves vault.old vault.new in
+            Attends (AsksAt L.names L.wants (D.says self.now.desk.now self.now.path.now) now) w result }
+        // the vault is broken after Store only
+        ensures broken { is_broken vault.new ≡ true → result ≡ Err Store }
+        // what is remembered is of this file still
+        ensures remembers { Remembers L.names (D.says self.now.desk.now self.now.path.now) kept.new }
+        // rows that are refused for want of a merchant aren't forgotten
+        ensures waits { IfOk result (λ news. wants_merchant news ≡ true
+            → (kept.new.waiting ≡ kept.old.rows) ⊎ (kept.new.rows ≡ kept.old.rows)) }
+        // a disk that is honest after the call was so before it
+        ensures disk_honest { T.is_honest (tables_of vault.new) → T.is_honest (tables_of vault.old) }
+    {
+        let Some(rows) = kept.rows.take() else {
+            return Ok(News::Nothing);
+        };
+        match carry_list::<L, T>(self.alloc, vault, rows.as_slice(), now) {
+            Ok((news, true)) => {
+                kept.rows = Some(rows);
+                Ok(news)
+            }
+            Ok((news, false)) => {
+                kept.waiting = waiting(&news, rows);
+                Ok(news)
+            }
+            Err(fault) => Err(fault),
+        }
+    }
+}
+
+/// Between two connections the changes of a list that is new and good are carried out.
+impl<'x, D: Desk, L: Kind> Office for Following<'x, D, L> {
+    ghost use Rattle.std.specs.Prelude.{true};
+    ghost use Rattle.vault_live.specs.Following.{Asks, Remembers};
+
+    type Kept = Remembered<'x, L::Row>;
+
+    ghost asks = { λ office tells V cs. Asks L.names L.wants (D.says office.desk.now office.path.now) tells V
+        cs };
+
+    ghost remembers = { λ office kept. Remembers L.names (D.says office.desk.now office.path.now) kept };
+
+    ghost acts = { λ _. true };
+
+    fn attend<K: Timekeeper, T: Tables>(
+        &self,
+        kept: &mut Remembered<'x, L::Row>,
+        time: &K,
+        vault: &mut Vault<T>,
+    ) -> Result<News, ListenFault> {
+        let mut questions = time.questions();
+        let found = self.next(kept, &questions);
+        if matches!(found, Found::Nothing) {
+            return Ok(News::Nothing);
+        }
+        let Some(now) = questions.moment() else {
+            return Err(ListenFault::Source);
+        };
+        match found {
+            Found::Nothing => Ok(News::Nothing),
+            Found::Unread => Ok(News::Unread(L::subject(), now)),
+            Found::Faulty(number) => Ok(News::Refused(L::subject(), number, now)),
+            Found::Rows => self.carry(kept, now, vault),
+        }
+    }
+
+    fn again(&self, kept: &mut Remembered<'x, L::Row>) {
+        if let Some(rows) = kept.waiting.take() {
+            kept.rows = Some(rows);
+        }
+    }
+}

@@ -1,0 +1,67 @@
+//! Whether a vault knows the merchants of a list.
+ghost use Rattle.std.specs.Prelude.{◌≡◌, IfErr, IfOk, false};
+ghost use Rattle.vault_core.specs.Vault.{Vault as Content};
+ghost use Rattle.vault_store.specs.Applied.{is_broken, tables_of};
+ghost use Rattle.vault_store.specs.Listed.{merchant_rows};
+ghost use Rattle.vault_engine.specs.Passing.{IsBefore, Keeps, Passage};
+ghost use Rattle.vault_listen.specs.Peers.{vault_passing};
+ghost use Rattle.vault_changes.specs.Failing.{BreaksByStore};
+ghost use Rattle.vault_changes.specs.Settling.{FailsToRead};
+ghost use Rattle.vault_live.specs.Known.{has_merchant as has_merchant_in};
+ghost use Rattle.vault_live.specs.Known.{lacks_merchant as lacks_merchant_in};
+
+use vault_changes::changes::ListedRight;
+use vault_core::name::MerchantId;
+use vault_store::listing::NamedRow;
+use vault_store::tables::Tables;
+use vault_store::vault::{Fault, Vault};
+
+/// Whether a merchant has this name.
+fn has_merchant(held: &[NamedRow], name: &MerchantId) -> bool
+    ensures { result ≡ has_merchant_in held.now name.now }
+{
+    for it in held {
+        if it.0.cmp(name).is_eq() {
+            return true;
+        }
+    }
+    false
+}
+
+/// Whether a row has the name of none.
+fn lacks_merchant(held: &[NamedRow], rows: &[ListedRight]) -> bool
+    ensures { result ≡ lacks_merchant_in held.now rows.now }
+{
+    for row in rows {
+        if !has_merchant(held, &row.1) {
+            return true;
+        }
+    }
+    false
+}
+
+/// Whether a vault lacks the merchant of a row. Nothing changes by the call.
+///
+/// 20 Memory: memory was refused. 21 Store: the store failed.
+pub(crate) fn lacks_one<T: Tables>(
+    vault: &mut Vault<T>,
+    rows: &[ListedRight],
+) -> Result<bool, Fault>
+    // the vault isn't broken
+    requires { is_broken vault.old ≡ false }
+    // with Ok, on an honest disk, it is so of each vault that was held, and that one is kept
+    ensures told { let w : Passage = vault_passing T.is_honest T.holds T.leaves vault.old vault.new in
+        IfOk result (λ lacks. (V : Content) → IsBefore w V
+        → (lacks ≡ lacks_merchant_in (merchant_rows V) rows.now) × Keeps w V) }
+    // on an honest disk, Memory keeps a vault that was held, and Store breaks it, but a crash leaves it;
+    // Reopen never comes
+    ensures failed { let w : Passage = vault_passing T.is_honest T.holds T.leaves vault.old vault.new in
+        IfErr result (FailsToRead w (is_broken vault.new)) }
+    // the vault is broken after Store only
+    ensures broken { BreaksByStore vault.new result }
+    // a disk that is honest after the call was so before it
+    ensures disk_honest { T.is_honest (tables_of vault.new) → T.is_honest (tables_of vault.old) }
+{
+    let held = vault.merchants()?;
+    Ok(lacks_merchant(held.as_slice(), rows))
+}

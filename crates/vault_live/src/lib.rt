@@ -1,0 +1,22 @@
+//! A vault that is served over connections and steered between them.
+#![tactic(auto)]
+
+pub mod both;
+mod carrying;
+pub mod desk;
+mod first;
+pub mod follower;
+pub mod following;
+pub mod kind;
+mod known;
+pub mod listed;
+pub mod maybe;
+pub mod merchants;
+pub mod news;
+pub mod office;
+pub mod remembered;
+pub mod rights;
+mod said;
+pub mod subject;
+pub mod told;
+pub mod turns;

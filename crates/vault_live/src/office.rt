@@ -1,0 +1,68 @@
+//! What is done with a vault between two connections.
+ghost use Rattle.std.specs.Prelude.{◌≡◌, Err, Ok, false, true};
+ghost use Rattle.vault_store.specs.Applied.{is_broken, tables_of};
+ghost use Rattle.vault_engine.specs.Passing.{Passage};
+ghost use Rattle.vault_listen.specs.Peers.{vault_passing};
+ghost use Rattle.vault_listen.specs.declared.fault.ListenFault.TheVariants.{Store};
+ghost use Rattle.vault_live.specs.Turns.{Attends};
+ghost use Rattle.vault_live.specs.declared.news.News.TheVariants.{Nothing};
+
+use crate::news::News;
+use vault_listen::fault::ListenFault;
+use vault_listen::time::Timekeeper;
+use vault_store::tables::Tables;
+use vault_store::vault::Vault;
+
+/// What asks for commands between two connections.
+///
+/// Contracts see which commands it may ask for, by the vault that is held and the moments that are told.
+pub trait Office {
+    ghost use Rattle.std.specs.Prelude.{Bool, List};
+    ghost use Rattle.vault_core.specs.Vault.{Vault as Content};
+    ghost use Rattle.vault_core.specs.declared.command.Command.{Command};
+    ghost use Rattle.vault_listen.specs.Live.{Turns};
+
+    /// What it remembers from one time to the next.
+    type Kept;
+
+    // such commands may be asked for, where this vault is held
+    ghost asks: { Self → Turns → Content → List Command → Type 0 };
+
+    // what it remembers is its own
+    ghost remembers: { Self → Self.Kept → Type 0 };
+
+    // whether it may carry out commands at all
+    ghost acts: { Self → Bool };
+
+    /// Carries out what is asked for now, where something is, and answers what came of it.
+    ///
+    /// 60 Source: there is no moment. 63 Store: the store failed.
+    fn attend<K: Timekeeper, T: Tables>(
+        &self,
+        kept: &mut Self::Kept,
+        time: &K,
+        vault: &mut Vault<T>,
+    ) -> Result<News, ListenFault>
+        // what it remembers is its own
+        requires remembers { remembers self.now kept.old }
+        requires unbroken { is_broken vault.old ≡ false }
+        // the first commands of those that were asked for are carried out, and the vault that they leave is
+        // kept; with Store a crash decides on one more
+        ensures attends { let w : Passage = vault_passing T.is_honest T.holds T.leaves vault.old vault.new in
+            Attends (asks self.now (K.tells time.now)) w result }
+        // the vault is broken after Store only
+        ensures broken { is_broken vault.new ≡ true → result ≡ Err Store }
+        // one that carries out nothing answers that nothing came
+        ensures calm { acts self.now ≡ false → result ≡ Ok Nothing }
+        // what it remembers is its own still
+        ensures remembers { remembers self.now kept.new }
+        // a disk that is honest after the call was so before it
+        ensures disk_honest { T.is_honest (tables_of vault.new) → T.is_honest (tables_of vault.old) };
+
+    /// What was refused for want of a merchant is to be tried again, since merchants were set.
+    fn again(&self, kept: &mut Self::Kept)
+        // what it remembers is its own
+        requires { remembers self.now kept.old }
+        // what it remembers is its own still
+        ensures { remembers self.now kept.new };
+}

@@ -1,0 +1,1 @@
+"""A service that follows its lists of merchants and of rights."""

@@ -1,0 +1,87 @@
+"""A service that follows both lists, with what it says, and questions to it."""
+
+import itertools
+import json
+import queue
+import re
+import socket
+import subprocess
+import threading
+import time
+
+from followed.lists import MERCHANTS, RIGHTS
+from shared.messages import first_answer, token_asked
+
+LISTENING = re.compile(r"listening ([0-9]+)\n")
+# within how many seconds a change has to be in force
+LATEST = 2.0
+# within how many seconds there is a look, and within how many there are two
+ONE_LOOK, TWO_LOOKS = 1.0, 1.3
+# the numbers of the trial's own requests; those of the load are smaller
+REQUESTS = itertools.count(10**9)
+
+
+def words(program, file, port=0):
+    """What starts a service of a file that follows both lists."""
+    return [program, "serve", "--port", str(port), "--merchants", MERCHANTS, "--rights", RIGHTS, file]
+
+
+class Followed:
+    """The program as it serves a file on a port and follows both lists."""
+
+    def __init__(self, program, file, port=0):
+        pipe = subprocess.PIPE
+        self.process = subprocess.Popen(words(program, file, port), stdout=pipe, text=True)
+        line = self.process.stdout.readline()
+        found = LISTENING.fullmatch(line)
+        if not found:
+            raise SystemExit(f"the service said {line!r}\n0 passed, 1 failed")
+        self.port = int(found[1])
+        self.lines = queue.Queue()
+        threading.Thread(target=self.read, daemon=True).start()
+
+    def read(self):
+        """Keeps the lines that it says, without their moments, which are checked."""
+        for line in self.process.stdout:
+            text, _, moment = line.strip().rpartition(" at ")
+            near = moment.isdecimal() and abs(int(moment) - time.time()) < 5
+            self.lines.put(text if near else f"{line.strip()}, at another time")
+
+    def kill(self):
+        """Ends it by a signal that it can't see."""
+        self.process.kill()
+        self.process.wait()
+
+    def said(self, seconds=LATEST):
+        """The next line, where one comes within that time."""
+        try:
+            return self.lines.get(timeout=seconds)
+        except queue.Empty:
+            return None
+
+    def ask(self, caller, request, merchant="shop1"):
+        """The answer to one message that asks for a token: its status and its body."""
+        with socket.create_connection(("127.0.0.1", self.port), timeout=30) as peer:
+            peer.sendall(token_asked(request, caller=caller, merchant=merchant))
+            peer.shutdown(socket.SHUT_WR)
+            answer, _ = first_answer(b"".join(iter(lambda: peer.recv(65536), b"")))
+        return answer.status, answer.body
+
+    def status(self, caller, merchant="shop1"):
+        """The status of a new request of a caller."""
+        return self.ask(caller, next(REQUESTS), merchant)[0]
+
+    def has_life(self, seconds):
+        """Whether a new token of the tills' shop lives so long."""
+        status, body = self.ask("till-0", next(REQUESTS))
+        return status == 200 and abs(json.loads(body)["expires"] - time.time() - seconds) < 5
+
+    def comes(self, holds, latest=LATEST):
+        """After how many seconds this holds of the service; nothing where it doesn't within the time."""
+        begun = time.monotonic()
+        while True:
+            found = holds(self)
+            spent = time.monotonic() - begun
+            if found or spent > latest:
+                return spent if found and spent <= latest else None
+            time.sleep(0.02)
