@@ -5,7 +5,8 @@ import os
 import sys
 import time
 
-from followed.lists import END, MERCHANTS, RIGHTS, TILLS, WAYS, merchants, renamed, rights, written
+from followed.lists import END, MERCHANTS, RIGHTS, TILLS, WAYS, merchants, renamed, rights, short, sweepers
+from followed.lists import written
 from followed.load import Load
 from followed.service import LATEST, ONE_LOOK, TWO_LOOKS, Followed, words
 from shared.runs import run
@@ -15,6 +16,8 @@ FILE = "vault.db"
 KILLS = 6
 # 250 changes in turns of at most 100, and within how many seconds they are in force
 TURNS, LATER = (100, 100, 50), 10.0
+# how many seconds behind a request the short life of its token has ended
+SHORT = 2.5
 # good lists, to which each part comes back: a caller comes and goes
 GOOD = {MERCHANTS: merchants(), RIGHTS: rights("guest")}
 # lists that are refused before their last line: of merchants by a number, and of rights by another one
@@ -205,6 +208,41 @@ class Trial:
         self.in_force("250 rights fewer", lambda it: it.status(last) == 403, *lines, latest=LATER)
         self.silent("at last")
 
+    def dead_tokens(self):
+        """250 tokens of the shop with short lives, which have ended."""
+        made = {self.service.status("sweeper", "short") for _ in range(250)}
+        self.tally.judge("250 tokens with a short life", unlike(made, {200}))
+        time.sleep(SHORT)
+
+    def swept(self):
+        """Dead tokens are purged by the caller that the list names, a hundred between two connections."""
+        written(MERCHANTS, short())
+        self.says("a shop with short lives", "merchants set 1")
+        written(RIGHTS, sweepers())
+        self.says("a caller who may purge", "rights granted 2 withdrawn 1")
+        self.dead_tokens()
+        written(MERCHANTS, short('sweep = "guest"'))
+        self.says("a sweep by a caller who may not", "sweep of short refused 8")
+        written(MERCHANTS, short('sweep = "sweeper"'))
+        self.says("a sweep", *(f"sweep of short purged {it}" for it in TURNS), latest=LATER)
+        written(MERCHANTS, short('sweep = "Sweeper"'))
+        self.says("a sweep by no name", "merchants refused 73")
+
+    def swept_again(self):
+        """A sweep that a kill ends is gone on with by the next start."""
+        written(MERCHANTS, short())
+        time.sleep(TWO_LOOKS)
+        self.dead_tokens()
+        written(MERCHANTS, short('sweep = "sweeper"'))
+        begun = self.service.said(LATER)
+        self.service.kill()
+        self.start()
+        rest = list(iter(lambda: self.service.said(TWO_LOOKS), None))
+        swept = [it.removeprefix("sweep of short purged ") for it in (begun, *rest)]
+        # the kill may have come before the line of what was done
+        whole = all(it.isdecimal() for it in swept) and 50 <= sum(map(int, swept)) <= 250
+        self.tally.judge("a sweep that was killed goes on", "" if whole else f"said {swept}")
+
 
 def main(program):
     tally = Tally()
@@ -221,10 +259,14 @@ def main(program):
             trial.unread()
             trial.rights_first()
             trial.many()
+            trial.swept()
+            trial.swept_again()
         tally.judge("each request under load is answered a token", "; ".join(load.faults[:3]))
         tally.judge("and again the same one", unlike(load.lost(), []))
     finally:
         trial.service.kill()
+    left = run(program, "sweep", FILE, "sweeper", "short").out
+    tally.judge("no dead token has its number", unlike(left, b"purged 0\n"))
     checked = run(program, "check", FILE)
     tally.judge("the file is sound", unlike(checked.status, 0))
     answered = f"{len(load.answered)} requests under load, {load.again} asked again over {KILLS} kills"

@@ -22,6 +22,16 @@ def merchants(*names, single=86400, end=END):
     return "".join(f"[{name}]\nsingle = {life}\nmulti = 0\n" for name, life in lives.items()) + end
 
 
+def short(*lines, end=END):
+    """That shop, and one whose tokens live for a second; these lines stand in its table too."""
+    return merchants(end="") + "".join(f"{it}\n" for it in ("[short]", "single = 1", "multi = 0", *lines)) + end
+
+
+def sweepers(end=END):
+    """The tills, and a caller at that shop who may purge."""
+    return TILLS + '[sweeper]\nshort = ["tokenize", "purge"]\n' + end
+
+
 def written(path, text):
     """The file is written over where it lies, as a copy over it does."""
     with open(path, "w") as it:

@@ -1,6 +1,8 @@
 -- Merchants of a list that were set are there.
-use Rattle.std.proofs.Common.{◌≡◌, ◌∙◌, ◌⊎◌, ℕ, List, [], ◌∷◌, Bool, true, false, not, cond, Option, Some, None}
-use Rattle.std.proofs.Common.{ap, map, refl, sym, subst, nat_lt, inl, inr, length, is_some, arith, is_eq, is_lt}
+use Rattle.std.proofs.Common.{◌≡◌, ◌∙◌, ◌⊎◌, ℕ, List, [], ◌∷◌, Bool, true, false, not, cond, Option}
+use Rattle.std.proofs.Common.{Some, None}
+use Rattle.std.proofs.Common.{ap, map, refl, sym, subst, nat_lt, inl, inr, length, is_some, arith, is_eq}
+use Rattle.std.proofs.Common.{is_lt}
 use Rattle.std.proofs.Common.{Less, Greater, T, Ordering, ◌==◌, ◌&&◌}
 use Rattle.std.proofs.lemmas.Bool.{and_parts}
 use Rattle.std.proofs.lemmas.Bool.Decides.{nat_tests}
@@ -77,7 +79,8 @@ passing f p (e ∷ es) h =
     elim (p (f e)) as (λ b. p (f e) ≡ b → (x : _) × Among (e ∷ es) x × (p (f x) ≡ true)) [
       | true ↦ λ is. (e, inl refl, is)
       | false ↦ λ is.
-          let rest = passing f p es (let it : list_any p (map f (e ∷ es)) ≡ list_any p (map f es) = rw is refl in sym it ∙ h) in
+          let it : list_any p (map f (e ∷ es)) ≡ list_any p (map f es) = rw is refl in
+          let rest = passing f p es (sym it ∙ h) in
           (rest.0, inr rest.1, rest.2)
     ] refl
 
@@ -224,7 +227,9 @@ module _ (now : ℕ) (V : Content) where
               kept = λ m there. rest.kept m (elim (tied bytes_exact m row.0) [
                 | inl named ↦ ap (λ n. is_some (merchant_at X n)) named ∙ ap is_some one.has.there
                 | inr differ ↦ ap is_some (one.others m (λ named.
-                    let yes = ap (λ n. eq_by_cmp bytes_cmp m n) (sym named) ∙ ap is_eq (tied_itself bytes_total m) in
+                    let yes =
+                    ap (λ n. eq_by_cmp bytes_cmp m n) (sym named)
+                    ∙ ap is_eq (tied_itself bytes_total m) in
                     cc (yes, differ))) ∙ there
               ]);
             }

@@ -6,6 +6,8 @@ pub mod change;
 pub mod changes;
 pub mod laws;
 mod merchant_keys;
+pub mod moments;
+pub mod purges;
 mod right_keys;
 pub mod settings;
 pub mod settle;

@@ -19,6 +19,20 @@ module _ {F X D : Type 0} (desk_of : F → D) (file_of : F → List ℕ) (path :
       subst (λ p. P (λ V cs. A desk p V cs)) (some_same same_path)
       (subst (λ d. P (λ V cs. A d (file_of f) V cs)) (some_same same_desk) h)
 
+  -- and so is what one asks for that begins with its rows
+  pub asks_listed : {R : Type 0} (rows_of : F → R) (rows : X → R) (o : Option F) (l : Option X)
+      → option_map desk_of o ≡ option_map (λ it. desk) l → option_map file_of o ≡ option_map path l
+      → option_map rows_of o ≡ option_map rows l → (A : D → List ℕ → R → Asking) → (P : Asking → Type 0)
+      → P (λ V cs. IsSomeAnd o (λ f. A (desk_of f) (file_of f) (rows_of f) V cs))
+      → P (λ V cs. IsSomeAnd l (λ it. A desk (path it) (rows it) V cs))
+  asks_listed rows_of rows None None same_desk same_path same_rows A P h = h
+  asks_listed rows_of rows None (Some it) same_desk same_path same_rows A P h = absurd (cc same_desk)
+  asks_listed rows_of rows (Some f) None same_desk same_path same_rows A P h = absurd (cc same_desk)
+  asks_listed rows_of rows (Some f) (Some it) same_desk same_path same_rows A P h =
+      subst (λ r. P (λ V cs. A desk (path it) r V cs)) (some_same same_rows)
+      (subst (λ p. P (λ V cs. A desk p (rows_of f) V cs)) (some_same same_path)
+      (subst (λ d. P (λ V cs. A d (file_of f) (rows_of f) V cs)) (some_same same_desk) h))
+
 -- an office that has no list doesn't act
 pub acts_not : {F X : Type 0} (file_of : F → List ℕ) (path : X → List ℕ) (o : Option F) (l : Option X)
     → option_map file_of o ≡ option_map path l → (acts : F → Bool) → is_some l ≡ false

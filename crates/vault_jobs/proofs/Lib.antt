@@ -3,9 +3,7 @@ pub mod Flushing
 pub mod Followed
 pub mod Lines
 pub mod Listed
-pub mod MerchantMoments
 pub mod Parts
-pub mod Purging
 pub mod RefinedPassages
 pub mod RefinedTasks
 pub mod Stops

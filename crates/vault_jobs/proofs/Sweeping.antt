@@ -30,7 +30,7 @@ use Rattle.vault_store.specs.declared.vault.Fault.TheVariants.{Memory, Store, Re
 use Rattle.vault_changes.specs.Grants.{AreDone, CarriesAll}
 use Rattle.vault_jobs.specs.Sweeps.{AreSwept, Begin, Sweeps, left_dead, purge_at, purges_at, swept_vault}
 use Rattle.vault_changes.proofs.GivenRights.{replies_more, run_more}
-use Rattle.vault_jobs.proofs.Purging.{purged_first, refused_leaves}
+use Rattle.vault_changes.proofs.Purging.{purged_first, refused_leaves}
 
 -- commands, and then others
 run_then : (cs ds : List Command) (V : Content) → run (cs ++ ds) V ≡ run ds (run cs V)

@@ -7,7 +7,7 @@ use Rattle.vault_listen.specs.Peers.{vault_passing}
 use Rattle.vault_store.specs.Applied.{Contains, tables_of}
 use Rattle.vault_store.specs.declared.vault.Vault.{Vault}
 use Rattle.vault_jobs.proofs.RefinedPassages.{sweep_ends}
-use Rattle.vault_jobs.specs.Ahead.{is_merchant_ahead}
+use Rattle.vault_changes.specs.Moments.{is_merchant_ahead}
 use Rattle.vault_jobs.specs.Doing.{SweepEnds, TimedSweepEnds}
 use Rattle.vault_jobs.specs.Streams.{Known}
 use Rattle.vault_jobs.specs.declared.clock.Giver.TheVariants.{Clock}

@@ -64,7 +64,8 @@ run_past a b V k = ap (λ cs. run cs V) (take_past a b k) ∙ run_both a (take k
 
 -- commands that all vaults that were held ask for
 pub carried_to : (all cs : List Command) (V : Content) (w : Passage) (broken : Bool)
-    (r : Result Verdict Fault) → IsBefore w V → cs ≡ all → CarriesAll cs w broken r → CarriesTo all V w broken r
+    (r : Result Verdict Fault) → IsBefore w V → cs ≡ all → CarriesAll cs w broken r
+    → CarriesTo all V w broken r
 carried_to all cs V w broken r b is h = subst (λ ds. CarriesTo ds V w broken r) is (by_end r h)
   where
     by_end : (r : Result Verdict Fault) → CarriesAll cs w broken r → CarriesTo cs V w broken r

@@ -21,7 +21,8 @@ use Rattle.vault_store.specs.Listed.{merchant_rows}
 use Rattle.vault_store.specs.declared.vault.Fault.{Fault}
 use Rattle.vault_changes.specs.Settings.{settings_at}
 use Rattle.vault_changes.specs.Settling.{FailsToRead, IsUntouched}
-use Rattle.vault_jobs.specs.Ahead.{is_merchant_ahead, moment_ahead}
+use Rattle.vault_changes.specs.Moments.{is_merchant_ahead}
+use Rattle.vault_jobs.specs.Ahead.{moment_ahead}
 use Rattle.vault_jobs.specs.Batched.{StopsBatch}
 use Rattle.vault_jobs.specs.Beginning.{CarriesOut}
 use Rattle.vault_jobs.specs.Lists.{asked_of, begin_of, follows}

@@ -4,9 +4,10 @@ use Rattle.std.specs.Prelude.{IsSomeAnd, string_bytes}
 use Rattle.vault_core.specs.Runs.{run}
 use Rattle.vault_core.specs.Vault.{Vault as Content}
 use Rattle.vault_core.specs.declared.command.Command.{Command}
-use Rattle.vault_merchants.specs.Listed.{AreListed}
+use Rattle.vault_merchants.specs.Listed.{AreListed, Wanted}
 use Rattle.vault_live.specs.Following.{AreRowsIn, Asks}
 use Rattle.vault_live.specs.Kinds.{Naming, Wanting, merchants_changes, rights_changes}
+use Rattle.vault_live.specs.Sweeping.{AsksPurges}
 use Rattle.vault_live.specs.Turns.{Asking}
 use Rattle.vault_jobs.specs.Outside.{Outside}
 use Rattle.vault_jobs.specs.declared.lists.ListFile.{ListFile}
@@ -32,6 +33,11 @@ module _ {X : Type 0} where
   asked_by names wants at listed V cs =
       IsSomeAnd listed (λ it. Asks names wants (at.looks (path_of it)) at.tells V cs)
 
+-- the purges that a list of merchants asks for between two connections, by the callers that it names
+abbrev pub swept_by : Outside → Option (ListFile Wanted) → Asking
+swept_by at listed V cs =
+    IsSomeAnd listed (λ it. AsksPurges it.rows.items (at.looks (path_of it)) at.tells V cs)
+
 -- some list is followed
 abbrev pub follows : Lists → Bool
 follows lists = is_some lists.merchants || is_some lists.rights
@@ -43,7 +49,8 @@ begin_of lists V =
     let set = first_of merchants_changes lists.merchants V in
     set ++ first_of rights_changes lists.rights (run set V)
 
--- what a service may be asked for between two connections
+-- what a service may be asked for between two connections: to set merchants, to change rights, or to purge
 abbrev pub asked_of : Outside → Lists → Asking
 asked_of at lists V cs = asked_by AreListed merchants_changes at lists.merchants V cs
     ⊎ asked_by AreRowsIn rights_changes at lists.rights V cs
+    ⊎ swept_by at lists.merchants V cs

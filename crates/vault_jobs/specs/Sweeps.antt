@@ -1,5 +1,5 @@
 -- The numbers of a merchant's dead tokens, purged at one moment.
-use Rattle.std.specs.Prelude.{◌≡◌, ℕ, ◌≤◌, List, [], ◌∷◌, ◌++◌, length, map, Bool, true, Result, Ok, Err}
+use Rattle.std.specs.Prelude.{◌≡◌, ℕ, ◌≤◌, List, [], ◌∷◌, ◌++◌, length, Bool, true, Result, Ok, Err}
 use Rattle.vault_core.specs.Dead.{dead_tokens}
 use Rattle.vault_core.specs.Keys.{Bytes}
 use Rattle.vault_core.specs.Runs.{run}
@@ -13,6 +13,7 @@ use Rattle.vault_engine.specs.Passing.{IsBefore, Keeps, Passage}
 use Rattle.vault_store.specs.declared.vault.Fault.{Fault}
 use Rattle.vault_store.specs.declared.vault.Fault.TheVariants.{Memory, Store, Reopen}
 use Rattle.vault_changes.specs.Grants.{AreDone}
+use Rattle.vault_changes.specs.Purges.{purges_of}
 
 -- the command that purges a token's number
 abbrev pub purge_at : Asker → ℕ → Bytes → Command
@@ -20,7 +21,7 @@ purge_at who now token = Purge who.caller who.merchant token now
 
 -- the commands that purge the numbers of tokens at one moment, in their order
 abbrev pub purges_at : Asker → ℕ → List Bytes → List Command
-purges_at who now tokens = map (λ token. purge_at who now token) tokens
+purges_at who now tokens = purges_of who.caller who.merchant now tokens
 
 -- the vault after these commands
 abbrev pub swept_vault : Asker → ℕ → List Bytes → Content → Content

@@ -1,44 +1,18 @@
 //! Whether a merchant's moment is far ahead of the clock's.
-ghost use Rattle.std.specs.Prelude.{◌≡◌, Err, IfErr, IfOk, Option, false};
-ghost use Rattle.std.specs.Option.{option_map_or};
+ghost use Rattle.std.specs.Prelude.{◌≡◌, Err, IfErr, IfOk, false};
 ghost use Rattle.vault_core.specs.Vault.{Vault as Content};
 ghost use Rattle.vault_store.specs.Applied.{is_broken, tables_of};
 ghost use Rattle.vault_engine.specs.Passing.{IsBefore, Keeps, Passage};
 ghost use Rattle.vault_listen.specs.Peers.{vault_passing};
 ghost use Rattle.vault_changes.specs.Failing.{BreaksByStore};
-ghost use Rattle.vault_jobs.specs.Ahead.{is_far_ahead, is_merchant_ahead, moment_among};
+ghost use Rattle.vault_changes.specs.Moments.{is_merchant_ahead};
 ghost use Rattle.vault_changes.specs.Settling.{FailsToRead};
 
+use vault_changes::moments::{is_far_ahead, moment_of};
 use vault_core::moment::Moment;
 use vault_core::name::MerchantId;
-use vault_store::listing::NamedRow;
 use vault_store::tables::Tables;
 use vault_store::vault::{Fault, Vault};
-
-/// The most seconds by which a merchant's moment may be ahead of the clock's: those of a day.
-const MOST_AHEAD: u64 = 86_400;
-
-/// The moment of a merchant by the first row that has its name.
-fn moment_by(rows: &[NamedRow], merchant: MerchantId) -> Option<Moment>
-    ensures { result ≡ moment_among merchant rows.now }
-{
-    for (name, row) in rows {
-        if *name == merchant {
-            return Some(row.moment);
-        }
-    }
-    None
-}
-
-/// Whether a merchant's moment by its row is more than a day ahead of this one; not, where it has no row.
-fn is_row_ahead(rows: &[NamedRow], merchant: MerchantId, now: Moment) -> bool
-    ensures { result ≡ option_map_or (is_far_ahead now) (moment_among merchant rows.now) false }
-{
-    match moment_by(rows, merchant) {
-        Some(moment) => moment.seconds() > now.seconds() + MOST_AHEAD,
-        None => false,
-    }
-}
 
 /// Whether a merchant's moment is more than a day ahead of this one; not, where it isn't known. Nothing
 /// changes.
@@ -65,8 +39,9 @@ pub(crate) fn is_ahead<T: Tables>(
     // a disk that is honest after the call was so before it
     ensures disk_honest { T.is_honest (tables_of vault.new) → T.is_honest (tables_of vault.old) }
 {
-    match vault.merchants() {
-        Ok(rows) => Ok(is_row_ahead(rows.as_slice(), merchant, now)),
+    match moment_of(vault, merchant) {
+        Ok(Some(moment)) => Ok(is_far_ahead(moment, now)),
+        Ok(None) => Ok(false),
         Err(fault) => Err(fault),
     }
 }

@@ -9,6 +9,7 @@ use vault_live::desk::Desk;
 use vault_live::following::Following;
 use vault_live::kind::Kind;
 use vault_live::maybe::Maybe;
+use vault_live::sweeps::Sweeps;
 use vault_merchants::read::ListedMerchant;
 
 /// A list that a service follows: the rows that its file has before that, and the moment at which they become
@@ -51,6 +52,27 @@ pub(crate) fn office_of<'x, D: Desk, L: Kind>(
 {
     let office = match listed {
         Some(it) => Some(Following::new(alloc, desk, it.path.as_str())),
+        None => None,
+    };
+    Maybe { office }
+}
+
+/// The office that sweeps the merchants of a list, where there is one.
+pub(crate) fn sweeps_of<'x, D: Desk>(
+    alloc: Global,
+    desk: &'x D,
+    listed: &'x Option<ListFile<ListedMerchant>>,
+) -> Maybe<Sweeps<'x, D>>
+    // where there is a list, it looks at its file by this desk, and begins with its rows
+    ensures desk { option_map (λ office. office.list.desk.now) result.office
+        ≡ option_map (λ it. desk.now) listed.now }
+    ensures path { option_map (λ office. office.list.path.now) result.office
+        ≡ option_map path_of listed.now }
+    ensures rows { option_map (λ office. office.began.now) result.office
+        ≡ option_map (λ it. it.rows.items) listed.now }
+{
+    let office = match listed {
+        Some(it) => Some(Sweeps::new(alloc, desk, it.path.as_str(), it.rows.as_slice())),
         None => None,
     };
     Maybe { office }

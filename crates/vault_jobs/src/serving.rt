@@ -14,7 +14,7 @@ ghost use Rattle.vault_jobs.specs.declared.task.Task.{Task};
 
 use crate::beginning::begin;
 use crate::listening::serve_at;
-use crate::lists::{Lists, office_of, text_of};
+use crate::lists::{Lists, office_of, sweeps_of, text_of};
 use crate::stop::Stop;
 use crate::task::Outcome;
 use std::io::Write;
@@ -25,6 +25,7 @@ use vault_live::desk::Desk;
 use vault_live::merchants::Merchants;
 use vault_live::remembered::Remembered;
 use vault_live::rights::Rights;
+use vault_live::sweeps::Swept;
 use vault_store::tables::Tables;
 use vault_store::vault::Vault;
 use vault_wire::watched::Watched;
@@ -62,11 +63,17 @@ fn serve_following<K: Timekeeper, N: Network, D: Desk, W: Write, T: Tables>(
 {
     let office = Both {
         first: office_of::<D, Merchants>(rt.alloc(), desk, &lists.merchants),
-        second: office_of::<D, Rights>(rt.alloc(), desk, &lists.rights),
+        second: Both {
+            first: office_of::<D, Rights>(rt.alloc(), desk, &lists.rights),
+            second: sweeps_of(rt.alloc(), desk, &lists.merchants),
+        },
     };
     let mut kept = BothKept {
         first: Remembered::new(text_of(&lists.merchants)),
-        second: Remembered::new(text_of(&lists.rights)),
+        second: BothKept {
+            first: Remembered::new(text_of(&lists.rights)),
+            second: Swept::new(text_of(&lists.merchants)),
+        },
     };
     serve_at(
         rt,

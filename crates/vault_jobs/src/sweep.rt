@@ -7,11 +7,10 @@ ghost use Rattle.vault_changes.specs.Failing.{BreaksByStore};
 ghost use Rattle.vault_jobs.specs.Sweeps.{Sweeps};
 
 use vault_batch::asker::Asker;
-use vault_changes::carry::{Orders, carry_all};
-use vault_core::command::Command;
+use vault_changes::carry::carry_all;
+use vault_changes::purges::Purges;
 use vault_core::limit::MOST_TOKENS;
 use vault_core::moment::Moment;
-use vault_pan::token::Token;
 use vault_store::tables::Tables;
 use vault_store::vault::{Fault, Vault};
 
@@ -20,28 +19,6 @@ const PAGE: usize = 1000;
 
 /// How often they are asked for at most: one is purged each time but the last.
 const MOST_PAGES: u64 = MOST_TOKENS + 1;
-
-/// Each token of a list has its number purged at a moment, as one asks for it.
-#[derive(Clone, Copy)]
-struct Purges {
-    asker: Asker,
-    now: Moment,
-}
-
-impl Orders<Token> for Purges {
-    ghost use Rattle.vault_jobs.specs.Sweeps.{purge_at};
-
-    ghost command_of = { λ purges token. purge_at purges.asker purges.now token };
-
-    fn command(&self, token: &Token) -> Command {
-        Command::Purge {
-            caller: self.asker.caller,
-            merchant: self.asker.merchant,
-            token: *token,
-            now: self.now,
-        }
-    }
-}
 
 /// Purges the numbers of the merchant's dead tokens at a moment, in the order of their texts, until none is
 /// left or one is refused: by 8 where the caller isn't entitled. Those before it stay purged.
@@ -63,7 +40,11 @@ pub fn sweep<T: Tables>(
     // a disk that is honest after the call was so before it
     ensures disk_honest { T.is_honest (tables_of vault.new) → T.is_honest (tables_of vault.old) }
 {
-    let purges = Purges { asker: *asker, now };
+    let purges = Purges {
+        caller: asker.caller,
+        merchant: asker.merchant,
+        now,
+    };
     let mut count: u64 = 0;
     for _ in 0..MOST_PAGES {
         let tokens = match vault.dead(asker.merchant, now, PAGE) {

@@ -1,7 +1,7 @@
 -- What is done between two connections.
 use Rattle.std.proofs.Common.{◌≡◌, ◌∙◌, ℕ, ◌+◌, ◌<◌, ◌≤◌, List, [], ◌∷◌, ◌++◌, refl, subst, sym, ap, arith}
 use Rattle.std.proofs.Common.{inl, inr, Result, Ok, Err, Bool, length, take, drop, get_or, replicate}
-use Rattle.std.proofs.Common.{◌==◌, false, not}
+use Rattle.std.proofs.Common.{◌==◌, ◌⊎◌, All, false, not, true}
 use Rattle.std.proofs.lemmas.Bool.Decides.{nat_tests}
 use Rattle.std.proofs.lemmas.List.{append_cancel_left, length-take-le, take-append-drop, take-take}
 use Rattle.std.proofs.lemmas.List.{take_all, take_more}
@@ -27,13 +27,16 @@ use Rattle.vault_changes.specs.Settling.{FailsToRead, IsUntouched}
 use Rattle.vault_live.specs.Carrying.{AsksAt, AsksRows, EndsSettled, news_in}
 use Rattle.vault_live.specs.Following.{AreSettled, Looks}
 use Rattle.vault_live.specs.First.{AreKept, Ends, IsCutAfter, IsRefusedAfter, are_left}
-use Rattle.vault_live.specs.Kinds.{AreSteps, KeepsRefused, Naming, Wanting}
-use Rattle.vault_live.specs.News.{IsSaidOf}
+use Rattle.vault_live.specs.Kinds.{KeepsRefused, Naming, Wanting}
+use Rattle.vault_changes.specs.Moments.{is_merchant_behind}
+use Rattle.vault_core.specs.Keys.{Bytes}
+use Rattle.vault_live.specs.News.{IsSaidOf, is_idle}
 use Rattle.vault_live.specs.Turns.{AreAsked, Asking, Attends}
 use Rattle.vault_live.specs.declared.first.End.{End}
 use Rattle.vault_live.specs.declared.first.End.TheVariants as end
 use Rattle.vault_live.specs.declared.news.News.{News}
-use Rattle.vault_live.specs.declared.news.News.TheVariants.{Nothing, Refused, Unread}
+use Rattle.vault_live.specs.declared.news.News.TheVariants.{Nothing, Changed, Set, Refused, Unread}
+use Rattle.vault_live.specs.declared.news.News.TheVariants.{Purged, Unswept, Waits}
 use Rattle.vault_live.specs.declared.subject.Subject.{Subject}
 
 module _ (asks : Asking) (w : Passage) where
@@ -52,6 +55,38 @@ module _ (asks : Asking) (w : Passage) where
   -- what is held wasn't read, since the store failed
   pub attend_failed : (broken : Bool) → FailsToRead w broken vault.Store → Attends asks w (Err Store)
   attend_failed broken (is, left) = ([], [], omega arith, λ V b. (inl refl, left V b))
+
+  -- a sweep waits, and that is said or not
+  pub attend_unswept : (m : Bytes) (number now : ℕ) → IsUntouched w
+      → Attends asks w (Ok (Unswept m number now))
+  attend_unswept m number now kept = ([], λ V b. (inl refl, refl, kept V b))
+
+  pub attend_waits : (m : Bytes) (now : ℕ)
+      → ((V : Content) → IsBefore w V → (is_merchant_behind V m now ≡ true) × Keeps w V)
+      → Attends asks w (Ok (Waits m now))
+  attend_waits m now kept = ([], λ V b. (inl refl, (refl, (kept V b).0), (kept V b).1))
+
+  pub attend_unsaid : (news said : News) → (said ≡ news) ⊎ (said ≡ Nothing) × (is_idle news ≡ true)
+      → Attends asks w (Ok news) → Attends asks w (Ok said)
+  attend_unsaid news said (inl same) h = subst (λ n. Attends asks w (Ok n)) (sym same) h
+  attend_unsaid news said (inr (none, idle)) h =
+      subst (λ n. Attends asks w (Ok n)) (sym none) (attend_none (kept news idle h))
+    where
+      kept : (news : News) → is_idle news ≡ true → Attends asks w (Ok news) → IsUntouched w
+      kept Nothing idle h = absurd (cc (idle))
+      kept (Changed given withdrawn now) idle h = absurd (cc (idle))
+      kept (Set count now) idle h = absurd (cc (idle))
+      kept (Refused about number now) idle h = absurd (cc (idle))
+      kept (Unread about now) idle h = absurd (cc (idle))
+      kept (Purged m count now) idle h = absurd (cc (idle))
+      kept (Unswept m number now) idle (cs, h) = λ V b. let it = h V b in subst (Keeps w) it.1 it.2
+      kept (Waits m now) idle (cs, h) = λ V b. let it = h V b in
+          subst (λ ds. Keeps w (run ds V)) it.1.0 it.2
+
+-- what holds of an answer holds of it in other words
+pub ok_as : {X E : Type 0} (r : Result X E) (P Q : X → Type 0) → ((x : X) → P x → Q x) → IfOk r P → IfOk r Q
+ok_as (Ok x) P Q up h = up x h
+ok_as (Err e) P Q up h = tt
 
 -- a number that a test tells to be 0
 is_zero : (n : ℕ) → not (n == 0) ≡ false → n ≡ 0
@@ -126,18 +161,12 @@ module _ {T : Type 0} (honest : T → Type 0) (holds : T → Content → Type 0)
     reads_then broken vault.Store (is, left) = (is, λ V b. left V (later V b))
     reads_then broken vault.Reopen never = never
 
-    module _ {X : Type 0} (about : Subject) (wants : Wanting X)
-        (now : ℕ) (rows : List X) (cs : List Command) (k : ℕ)
-        (of : (V : Content) → IsBefore early V → cs ≡ wants now rows V)
-        (steps : (V : Content) → IsBefore early V → AreSteps cs) where
-      -- the first of the changes
-      asked : (n : ℕ) (V : Content) → IsBefore both V → AreAsked (AsksRows wants now rows) V (take n cs)
-      asked n V b =
-          inr (
-            drop n cs,
-            subst (AsksRows wants now rows V) (sym (take-append-drop n cs))
-                (of V (back b.0, b.1), (steps V (back b.0, b.1)).proper),
-          )
+    module _ (asks : Asking) (cs : List Command) (k : ℕ)
+        (of : (V : Content) → IsBefore early V → asks V cs)
+        (keeps : (V : Content) → IsBefore early V → All KeepsRefused cs) where
+      -- the first of the commands
+      asked : (n : ℕ) (V : Content) → IsBefore both V → AreAsked asks V (take n cs)
+      asked n V b = inr (drop n cs, subst (asks V) (sym (take-append-drop n cs)) (of V (back b.0, b.1)))
 
       abbrev next : Command
       next = get_or cs k (Audit [] [] 0)
@@ -147,7 +176,7 @@ module _ {T : Type 0} (honest : T → Type 0) (holds : T → Content → Type 0)
 
       -- they are done
       done : (news : News) → ((V : Content) → AreDone k cs V → IsSaidOf news V (take k cs))
-          → AreKept k cs late → Attends (AsksRows wants now rows) both (Ok news)
+          → AreKept k cs late → Attends asks both (Ok news)
       done news said h =
           (take k cs, λ V b. let it = h V (later V b) in (asked k V b, said V it.0, it.1))
 
@@ -165,10 +194,10 @@ module _ {T : Type 0} (honest : T → Type 0) (holds : T → Content → Type 0)
           (answer.Refused n ∷ []) two in
           let refused : reply W next ≡ answer.Refused n = cc (last) in
           ap (λ ds. run ds V) (more below) ∙ run_more (take k cs) next V
-          ∙ all_at KeepsRefused cs k (Audit [] [] 0) below (steps V (back b.0, b.1)).keeps W n refused
+          ∙ all_at KeepsRefused cs k (Audit [] [] 0) below (keeps V (back b.0, b.1)) W n refused
 
       refused : (n : ℕ) (news : News) → ((V : Content) → AreDone k cs V → IsSaidOf news V (take k cs))
-          → k < length cs → IsRefusedAfter n k cs late → Attends (AsksRows wants now rows) both (Ok news)
+          → k < length cs → IsRefusedAfter n k cs late → Attends asks both (Ok news)
       refused n news said below h = (
         take k cs,
         λ V b.
@@ -180,23 +209,23 @@ module _ {T : Type 0} (honest : T → Type 0) (holds : T → Content → Type 0)
       )
 
       -- the store failed at the next one
-      cut : k < length cs → IsCutAfter k cs late → Attends (AsksRows wants now rows) both (Err Store)
+      cut : k < length cs → IsCutAfter k cs late → Attends asks both (Err Store)
       cut below h = (
         take k cs,
         next ∷ [],
         omega arith,
         λ V b. (
-          subst (λ ds. AreAsked (AsksRows wants now rows) V ds) (more below) (asked (k + 1) V b),
+          subst (λ ds. AreAsked asks V ds) (more below) (asked (k + 1) V b),
           subst (λ ds. leaves (tables_of v2) (run (take k cs) V) (run ds V)) (more below)
               (h V (later V b)).1,
         ),
       )
 
-      -- the first of the changes were carried out
+      -- the first of the commands were carried out
       pub attends_first : (e : End) (r : Result (News × Bool) ListenFault) → Ends e k cs late
           → IfOk r (λ it. (V : Content) → AreDone k cs V → IsSaidOf it.0 V (take k cs))
           → (e ≡ end.Store → r ≡ Err Store) → IfErr r (λ f. (f ≡ Store) × (e ≡ end.Store))
-          → Attends (AsksRows wants now rows) both (news_in r)
+          → Attends asks both (news_in r)
       attends_first end.All (Ok it) (is, h) said store fault = done it.0 said h
       attends_first end.Enough (Ok it) (is, h) said store fault = done it.0 said h
       attends_first (end.Refused n) (Ok it) (below, h) said store fault = refused n it.0 said below h
@@ -207,19 +236,21 @@ module _ {T : Type 0} (honest : T → Type 0) (holds : T → Content → Type 0)
       attends_first (end.Refused n) (Err f) h said store fault = absurd (cc (fault.1))
       attends_first end.Memory (Err f) h said store fault = absurd (cc (fault.1))
       attends_first end.Store (Err f) (below, h) said store fault =
-          subst (λ e. Attends (AsksRows wants now rows) both (Err e)) (sym fault.0) (cut below h)
+          subst (λ e. Attends asks both (Err e)) (sym fault.0) (cut below h)
 
       -- where none are left, all are done, or the first one is refused
-      pub settled_first : (e : End) (r : Result (News × Bool) ListenFault) → Ends e k cs late
+      pub settled_first : {X : Type 0} (about : Subject) (wants : Wanting X) (now : ℕ) (rows : List X)
+          → ((V : Content) → IsBefore early V → cs ≡ wants now rows V)
+          → (e : End) (r : Result (News × Bool) ListenFault) → Ends e k cs late
           → IfOk r (λ it. it.1 ≡ are_left e k)
           → ((n : ℕ) → k ≡ 0 → e ≡ end.Refused n → IfOk r (λ it. it.0 ≡ Refused about n now))
           → EndsSettled about wants now rows both r
-      settled_first e (Err f) h left said = tt
-      settled_first end.All (Ok it) (is, h) left said = λ none V b.
-          inl (subst (λ ds. Keeps both (run ds V)) (take_all k cs (omega (arith, is)) ∙ of V (back b.0, b.1))
+      settled_first about wants now rows are e (Err f) h left said = tt
+      settled_first about wants now rows are end.All (Ok it) (is, h) left said = λ none V b.
+          inl (subst (λ ds. Keeps both (run ds V)) (take_all k cs (omega (arith, is)) ∙ are V (back b.0, b.1))
           (h V (later V b)).1)
-      settled_first end.Enough (Ok it) h left said = λ none. absurd (cc (left, none))
-      settled_first (end.Refused n) (Ok it) (below, h) left said = λ none V b.
+      settled_first about wants now rows are end.Enough (Ok it) h left said = λ none. absurd (cc (left, none))
+      settled_first about wants now rows are (end.Refused n) (Ok it) (below, h) left said = λ none V b.
           let after = h V (later V b) in
           let first : k ≡ 0 = is_zero k (sym left ∙ none) in
           inr (
@@ -227,5 +258,5 @@ module _ {T : Type 0} (honest : T → Type 0) (holds : T → Content → Type 0)
             subst (λ i. Keeps both (run (take i cs) V)) first
                 (subst (Keeps both) (unchanged n V b below after.0 after.1) after.2),
           )
-      settled_first end.Memory (Ok it) h left said = λ none. absurd (cc (left, none))
-      settled_first end.Store (Ok it) h left said = λ none. absurd (cc (left, none))
+      settled_first about wants now rows are end.Memory (Ok it) h left said = λ none. absurd (cc (left, none))
+      settled_first about wants now rows are end.Store (Ok it) h left said = λ none. absurd (cc (left, none))

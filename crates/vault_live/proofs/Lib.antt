@@ -1,5 +1,6 @@
 pub mod Attending
 pub mod ProperChanges
+pub mod ProperPurges
 pub mod ProperSettings
 pub mod Stepping
 pub mod Telling

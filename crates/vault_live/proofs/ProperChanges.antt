@@ -28,7 +28,7 @@ use Rattle.vault_changes.specs.Grants.{grants_at}
 use Rattle.vault_live.specs.Following.{AreRowsIn}
 use Rattle.vault_live.specs.Kinds.{rights_changes}
 
-abbrev Among : {X : Type 0} → List X → X → Type 0
+abbrev pub Among : {X : Type 0} → List X → X → Type 0
 Among [] x = ⊥
 Among (y ∷ ys) x = (x ≡ y) ⊎ Among ys x
 
@@ -44,7 +44,7 @@ below_among R k (f ∷ es) low e (inr later) =
     below_among R k es (subst T (sym (and_parts _ _ (true-T _ low)).1) tt) e later
 
 -- what stands among sorted entries is found
-found_among : {K X : Type 0} {R : K → K → Ordering} → IsTotalOrder R → (es : List (K × X))
+pub found_among : {K X : Type 0} {R : K → K → Ordering} → IsTotalOrder R → (es : List (K × X))
     → T (is_sorted R es) → (e : K × X) → Among es e → lookup R e.0 es ≡ Some e.1
 found_among total [] sorted e h = absurd h
 found_among {R = R} total (f ∷ es) sorted e (inl same) =

@@ -32,6 +32,17 @@ abbrev pub turns_of : List (Option Link) → List Turn
 turns_of [] = []
 turns_of (x ∷ xs) = turn_of x ∷ turns_of xs
 
+-- the first of some turns, and the others
+pub parted_turns : (tells : Turns) (asks : Asking) (first more : List Turn) (V W : Content)
+    → AllTurn tells asks V (first ++ more) W
+    → (M : Content) × AllTurn tells asks V first M × AllTurn tells asks M more W
+parted_turns tells asks [] more V W turns = (V, refl, turns)
+parted_turns tells asks (Lost ∷ first) more V W turns = parted_turns tells asks first more V W turns
+parted_turns tells asks (Served x ∷ first) more V W (N, on, one, turns) =
+    let it = parted_turns tells asks first more N W turns in (it.0, (N, on, one, it.1), it.2)
+parted_turns tells asks (Attended cs news ∷ first) more V W (asked, said, turns) =
+    let it = parted_turns tells asks first more (run cs V) W turns in (it.0, (asked, said, it.1), it.2)
+
 pub came_both : (ts us : List Turn) → came (ts ++ us) ≡ came ts + came us
 came_both [] us = omega arith
 came_both (Lost ∷ ts) us = omega (arith, came_both ts us)

@@ -11,7 +11,7 @@ use Rattle.vault_core.specs.Outcome.{Outcome, plain_refusal}
 use Rattle.vault_core.specs.Refusals.{no_merchant, too_many_merchants}
 use Rattle.vault_core.specs.Vault.{Merchant, Vault as Content, merchant_at}
 use Rattle.vault_core.specs.declared.command.Command.{Command}
-use Rattle.vault_core.specs.declared.command.Command.TheVariants.{Grant, Withdraw}
+use Rattle.vault_core.specs.declared.command.Command.TheVariants.{Grant, Purge, Withdraw}
 use Rattle.vault_core.specs.declared.reply.Reply.TheVariants as answer
 use Rattle.vault_core.specs.declared.limit.TheConstants.{MOST_MERCHANTS}
 use Rattle.vault_core.specs.declared.right.Right.{Right}
@@ -19,8 +19,10 @@ use Rattle.vault_core.specs.declared.row.Lives.{Lives}
 use Rattle.vault_merchants.specs.Listed.{Wanted}
 use Rattle.vault_rights.specs.Named.{Row}
 use Rattle.vault_store.specs.Listed.{merchant_rows}
+use Rattle.vault_changes.proofs.Purging.{refused_leaves}
 use Rattle.vault_changes.specs.Changes.{Held, missing_rows, rights_of, surplus_rights, withdrawals_at}
 use Rattle.vault_changes.specs.Grants.{grants_at}
+use Rattle.vault_changes.specs.Purges.{purges_of}
 use Rattle.vault_changes.specs.Settings.{missing_merchants, setting_at}
 use Rattle.vault_live.specs.Kinds.{KeepsRefused, merchants_changes, rights_changes}
 
@@ -82,3 +84,9 @@ pub settings_refused : (now : ℕ) (rows : List Wanted) (V : Content)
     → All KeepsRefused (merchants_changes now rows V)
 settings_refused now rows V = each_refused (λ row. setting_at now row) (setting_refused now)
     (missing_merchants rows (merchant_rows V))
+
+-- and purges do
+pub purges_refused : (caller m : List ℕ) (now : ℕ) (tokens : List (List ℕ))
+    → All KeepsRefused (purges_of caller m now tokens)
+purges_refused caller m now = each_refused (λ token. Purge caller m token now)
+    (λ token V n is. refused_leaves caller m token now V n is)

@@ -6,5 +6,6 @@ pub mod Known
 pub mod Listed
 pub mod News
 pub mod Subject
+pub mod Sweeping
 pub mod Told
 pub mod Turns

@@ -2,6 +2,9 @@
 use Rattle.std.specs.Prelude.{◌≡◌, ◌==◌, ℕ, Bool, true, false, List, [], ◌++◌, codes, decimal, filter}
 use Rattle.std.specs.Prelude.{length}
 use Rattle.vault_changes.specs.Grants.{AreDone}
+use Rattle.vault_changes.specs.Moments.{is_merchant_behind}
+use Rattle.vault_changes.specs.Purges.{purges_of}
+use Rattle.vault_core.specs.Keys.{Bytes}
 use Rattle.vault_core.specs.Runs.{run}
 use Rattle.vault_core.specs.Vault.{Vault as Content}
 use Rattle.vault_core.specs.declared.command.Command.{Command}
@@ -11,10 +14,15 @@ use Rattle.vault_refusal.specs.declared.refusal.Refusal.TheVariants.{NoMerchant}
 use Rattle.vault_live.specs.Subject.{name_of}
 use Rattle.vault_live.specs.declared.news.News.{News}
 use Rattle.vault_live.specs.declared.news.News.TheVariants.{Nothing, Changed, Set, Refused, Unread}
+use Rattle.vault_live.specs.declared.news.News.TheVariants.{Purged, Unswept, Waits}
 
 -- the end of a line, which says when
 abbrev pub at_text : ℕ → List ℕ
 at_text now = codes " at " ++ decimal now ++ codes "\n"
+
+-- the beginning of a line of a sweep, which says of which merchant
+abbrev pub sweep_text : Bytes → List ℕ
+sweep_text m = codes "sweep of " ++ m
 
 -- the line that says it; there is none of nothing
 abbrev pub line_of : News → List ℕ
@@ -24,6 +32,9 @@ line_of (Changed given withdrawn now) =
 line_of (Set count now) = codes "merchants set " ++ decimal count ++ at_text now
 line_of (Refused about number now) = name_of about ++ codes " refused " ++ decimal number ++ at_text now
 line_of (Unread about now) = name_of about ++ codes " unread" ++ at_text now
+line_of (Purged m count now) = sweep_text m ++ codes " purged " ++ decimal count ++ at_text now
+line_of (Unswept m number now) = sweep_text m ++ codes " refused " ++ decimal number ++ at_text now
+line_of (Waits m now) = sweep_text m ++ codes " waits" ++ at_text now
 
 -- whether it says that a list is refused for want of a merchant
 abbrev pub wants_merchant : News → Bool
@@ -45,9 +56,16 @@ abbrev pub sets : Command → Bool
 sets (SetMerchant m single multi lead now) = true
 sets c = false
 
+-- it says that a merchant isn't swept
+abbrev pub is_idle : News → Bool
+is_idle (Unswept m number now) = true
+is_idle (Waits m now) = true
+is_idle news = false
+
 -- What is said of commands that were carried out from a vault. Nothing is said of none. All were done, and
--- so many of them gave and withdrew rights, or set merchants. Or the list is refused, or can't be read, and
--- nothing changed.
+-- so many of them gave and withdrew rights, or set merchants; or they purge tokens of the merchant, and are
+-- so many. Or a list or a sweep is refused, or a list can't be read, and nothing changed. Or a sweep waits,
+-- and the merchant's moment is far behind.
 abbrev pub IsSaidOf : News → Content → List Command → Type 0
 IsSaidOf Nothing V cs = cs ≡ []
 IsSaidOf (Changed given withdrawn now) V cs =
@@ -56,3 +74,7 @@ IsSaidOf (Changed given withdrawn now) V cs =
 IsSaidOf (Set count now) V cs = (count ≡ length (filter sets cs)) × AreDone (length cs) cs V
 IsSaidOf (Refused about number now) V cs = run cs V ≡ V
 IsSaidOf (Unread about now) V cs = cs ≡ []
+IsSaidOf (Purged m count now) V cs = (caller : Bytes) × (tokens : List Bytes)
+    × (cs ≡ purges_of caller m now tokens) × (count ≡ length tokens) × AreDone (length cs) cs V
+IsSaidOf (Unswept m number now) V cs = run cs V ≡ V
+IsSaidOf (Waits m now) V cs = (cs ≡ []) × (is_merchant_behind V m now ≡ true)

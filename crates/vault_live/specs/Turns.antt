@@ -70,6 +70,14 @@ AllTurn tells asks V (Served x ∷ ts) W = (M : Content) × (x.ended ≢ Err fau
 AllTurn tells asks V (Attended cs news ∷ ts) W =
     AreAsked asks V cs × IsSaidOf news V cs × AllTurn tells asks (run cs V) ts W
 
+-- The first of some turns are turns by themselves, and so are the others from the vault that those leave. So
+-- a service may be stopped between two turns.
+abbrev pub TurnsMayStop : {K O : Type 0} → (K → Turns) → (O → Turns → Asking) → Type 0
+TurnsMayStop {K = K} {O = O} tells asks = (time : K) (office : O) (first more : List Turn) (V W : Content)
+    → AllTurn (tells time) (asks office (tells time)) V (first ++ more) W
+    → (M : Content) × AllTurn (tells time) (asks office (tells time)) V first M
+    × AllTurn (tells time) (asks office (tells time)) M more W
+
 -- the vault that turns leave is kept
 abbrev pub AllKept : Turns → Asking → List Turn → Passage → Type 0
 AllKept tells asks ts w = (V : Content) → IsBefore w V → (W : Content) × AllTurn tells asks V ts W × Keeps w W

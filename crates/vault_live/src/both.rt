@@ -14,7 +14,7 @@ pub struct BothKept<A, B> {
 }
 
 /// Two offices. The second one is asked where the first one did nothing and has nothing to say. Where the
-/// first one set merchants, the second one tries again what was refused for want of one.
+/// first one changed merchants or rights, the second one tries again what was refused for want of them.
 #[derive(Drop)]
 pub struct Both<A, B> {
     pub first: A,
@@ -43,6 +43,10 @@ impl<A: Office, B: Office> Office for Both<A, B> {
         match news {
             News::Nothing => self.second.attend(&mut kept.second, time, vault),
             News::Set(..) => {
+                self.second.again(&mut kept.second);
+                Ok(news)
+            }
+            News::Changed(..) => {
                 self.second.again(&mut kept.second);
                 Ok(news)
             }

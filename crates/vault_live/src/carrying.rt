@@ -12,6 +12,7 @@ use crate::kind::Kind;
 use crate::news::News;
 use crate::said::outcome;
 use std::alloc::Global;
+use vault_changes::settle::AsTheyStand;
 use vault_core::moment::Moment;
 use vault_listen::fault::ListenFault;
 use vault_store::tables::Tables;
@@ -50,6 +51,6 @@ pub(crate) fn carry_list<L: Kind, T: Tables>(
         Err(Fault::Reopen) => return Err(ListenFault::Store),
     };
     let commands = changes.as_slice();
-    let carried = carry_first(vault, commands);
+    let carried = carry_first(vault, &AsTheyStand, commands);
     outcome::<L>(commands, carried, now)
 }

@@ -1,18 +1,18 @@
 //! The first of some commands, carried out one by one.
-ghost use Rattle.std.specs.Prelude.{◌≡◌, ◌≤◌, All, false, length, true};
+ghost use Rattle.std.specs.Prelude.{◌≡◌, ◌≤◌, All, false, length, map, true};
 ghost use Rattle.vault_store.specs.Applied.{is_broken, tables_of};
 ghost use Rattle.vault_engine.specs.Passing.{Passage};
 ghost use Rattle.vault_listen.specs.Peers.{vault_passing};
 ghost use Rattle.vault_changes.specs.Carried.{IsCarriedOut};
 ghost use Rattle.vault_live.specs.First.{Ends};
 
+use vault_changes::carry::Orders;
 use vault_changes::change::change;
-use vault_core::command::Command;
 use vault_store::tables::Tables;
 use vault_store::vault::{Fault, Vault};
 
 /// How many commands are carried out between two connections at most.
-const MOST: usize = 100;
+pub(crate) const MOST: usize = 100;
 
 /// Why no more commands were carried out.
 #[derive(Clone, Copy, Debug, PartialEq, Eq, Drop)]
@@ -36,31 +36,36 @@ pub(crate) struct Carried {
     pub(crate) end: End,
 }
 
-/// Carries out the first of these commands, 100 at most, up to one that is refused.
-pub(crate) fn carry_first<T: Tables>(vault: &mut Vault<T>, commands: &[Command]) -> Carried
+/// Carries out the commands of the first of these items, 100 at most, up to one that is refused.
+pub(crate) fn carry_first<X, O: Orders<X>, T: Tables>(
+    vault: &mut Vault<T>,
+    orders: &O,
+    items: &[X],
+) -> Carried
     // every vault replies to each command by done or a refusal, and lives that it sets are in range
-    requires carried { All IsCarriedOut commands.now }
+    requires carried { All IsCarriedOut (map (O.command_of orders.now) items.now) }
     requires unbroken { is_broken vault.old ≡ false }
     // the first so many are done, and the vault that they leave is kept; the next one ended it, where they
     // aren't all or enough
     ensures ends { let w : Passage = vault_passing T.is_honest T.holds T.leaves vault.old vault.new in
-        Ends result.end result.done commands.now w }
+        Ends result.end result.done (map (O.command_of orders.now) items.now) w }
     // no more are done than there are
-    ensures few { result.done ≤ length commands.now }
+    ensures few { result.done ≤ length items.now }
     // the vault is broken only where the store failed
     ensures broken { is_broken vault.new ≡ true → result.end ≡ End.Store }
     // a disk that is honest after the call was so before it
     ensures disk_honest { T.is_honest (tables_of vault.new) → T.is_honest (tables_of vault.old) }
 {
     let mut done = 0;
-    for command in commands {
+    for item in items {
         if done == MOST {
             return Carried {
                 done,
                 end: End::Enough,
             };
         }
-        match change(vault, command) {
+        let ordered = orders.command(item);
+        match change(vault, &ordered) {
             Ok(Ok(())) => done += 1,
             Ok(Err(number)) => {
                 return Carried {

@@ -51,7 +51,7 @@ fn waiting<R: Drop>(news: &News, rows: Vec<R>) -> Option<Vec<R>>
 
 /// What there is to do, or to say.
 #[derive(Clone, Copy, Debug, PartialEq, Eq, Drop)]
-enum Found {
+pub(crate) enum Found {
     /// Nothing.
     Nothing,
     /// The file can't be read, and at the look before it could.
@@ -119,7 +119,11 @@ impl<'x, D: Desk, L: Kind> Following<'x, D, L> {
     }
 
     /// What there is to do now: the rows that are kept; else what a look at the file finds, where it is due.
-    fn next<Q: Questions>(&self, kept: &mut Remembered<'x, L::Row>, questions: &Q) -> Found
+    pub(crate) fn next<Q: Questions>(
+        &self,
+        kept: &mut Remembered<'x, L::Row>,
+        questions: &Q,
+    ) -> Found
         // what is remembered is of this file
         requires { Remembers L.names (D.says self.now.desk.now self.now.path.now) kept.old }
         // what is remembered is of this file still

@@ -1,14 +1,15 @@
 //! What is said of a list that is followed.
-ghost use Rattle.std.specs.Prelude.{◌≡◌};
+ghost use Rattle.std.specs.Prelude.{◌≡◌, ◌++◌};
 ghost use Rattle.vault_wire.specs.Watching.{inner_of, is_stopped};
-ghost use Rattle.vault_live.specs.News.{line_of};
+ghost use Rattle.vault_live.specs.News.{at_text, line_of, sweep_text};
 ghost use Rattle.vault_live.specs.Told.{Tells};
 
 use crate::subject::Subject;
-use crate::told::tell;
+use crate::told::{tell, tell_bytes};
 use itoa::Buffer;
 use std::io::Write;
 use vault_core::moment::Moment;
+use vault_core::name::MerchantId;
 use vault_wire::watched::Watched;
 
 /// What came of a list between two connections, and when.
@@ -24,6 +25,39 @@ pub enum News {
     Refused(Subject, u8, Moment),
     /// The list of rights, or of merchants, can't be read.
     Unread(Subject, Moment),
+    /// So many dead tokens of a merchant were purged.
+    Purged(MerchantId, usize, Moment),
+    /// A merchant isn't swept: that is refused by this number.
+    Unswept(MerchantId, u8, Moment),
+    /// A merchant isn't swept, since its moment is far behind the clock's.
+    Waits(MerchantId, Moment),
+}
+
+/// Writes a line of a merchant's sweep: what is said of it, and when. A failure of the writer isn't told.
+fn write_sweep<W: Write>(
+    output: &mut Watched<W>,
+    merchant: MerchantId,
+    said: &str,
+    digits: &str,
+    now: Moment,
+)
+    // the line went out; or a beginning of it and not all, and the writer has failed
+    ensures { Tells (W.contents (inner_of output.old)) (W.contents (inner_of output.new))
+        (is_stopped output.new) (sweep_text merchant ++ said.now ++ digits.now ++ at_text now) }
+{
+    let mut seconds = Buffer::new();
+    tell_bytes(
+        output,
+        &[
+            b"sweep of ",
+            merchant.bytes(),
+            said.as_bytes(),
+            digits.as_bytes(),
+            b" at ",
+            seconds.format(now.seconds()).as_bytes(),
+            b"\n",
+        ],
+    );
 }
 
 /// Writes the line that says what came of a list. A failure of the writer isn't told.
@@ -79,6 +113,13 @@ fn write_line<W: Write>(output: &mut Watched<W>, news: News)
                 "\n",
             ],
         ),
+        News::Purged(merchant, count, now) => {
+            write_sweep(output, merchant, " purged ", first.format(count), now)
+        }
+        News::Unswept(merchant, number, now) => {
+            write_sweep(output, merchant, " refused ", first.format(number), now)
+        }
+        News::Waits(merchant, now) => write_sweep(output, merchant, " waits", "", now),
     }
 }
 

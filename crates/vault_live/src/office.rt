@@ -59,7 +59,7 @@ pub trait Office {
         // a disk that is honest after the call was so before it
         ensures disk_honest { T.is_honest (tables_of vault.new) → T.is_honest (tables_of vault.old) };
 
-    /// What was refused for want of a merchant is to be tried again, since merchants were set.
+    /// What was refused for want of a merchant or a right is to be tried again, since those have changed.
     fn again(&self, kept: &mut Self::Kept)
         // what it remembers is its own
         requires { remembers self.now kept.old }

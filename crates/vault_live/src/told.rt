@@ -19,3 +19,16 @@ pub fn tell<W: Write>(writer: &mut Watched<W>, parts: &[&str])
         }
     }
 }
+
+/// Writes a line of bytes, part by part. A failure of the writer isn't told.
+pub(crate) fn tell_bytes<W: Write>(writer: &mut Watched<W>, parts: &[&[u8]])
+    // the line went out; or a beginning of it and not all, and the writer has failed
+    ensures { Tells (W.contents (inner_of writer.old)) (W.contents (inner_of writer.new))
+        (is_stopped writer.new) (flat_map (λ part. part.now) parts.now) }
+{
+    for part in parts {
+        if send(writer, part).is_err() {
+            return;
+        }
+    }
+}

@@ -21,13 +21,15 @@ refusal_of WrongType = refusal.WrongType
 refusal_of Memory = refusal.RightsMemory
 refusal_of BadLife = refusal.BadLives
 
--- the value is no table of exactly such whole numbers
+-- the value is no table of exactly such whole numbers, and of a caller's name where it says who sweeps
 abbrev pub IsOther : Data → Type 0
-IsOther value = (single multi : ℤ) (lead : Option ℤ) → ¬ IsValueOf value single multi lead
+IsOther value = (single multi : ℤ) (lead : Option ℤ) (sweeper : Option Bytes)
+    → ¬ IsValueOf value single multi lead sweeper
 
 -- the value is such a table, and its numbers aren't two lives and a lead
 abbrev pub IsOut : Data → Type 0
-IsOut value = (single multi : ℤ) × (lead : Option ℤ) × IsValueOf value single multi lead
+IsOut value = (single multi : ℤ) × (lead : Option ℤ) × (sweeper : Option Bytes)
+    × IsValueOf value single multi lead sweeper
     × ((one more : ℕ) (shown : Lead) → ¬ AreLivesOf single multi lead one more shown)
 
 -- a merchant's key is no name; else its value is no such table; else its numbers aren't lives and a lead

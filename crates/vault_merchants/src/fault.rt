@@ -11,7 +11,8 @@ pub enum MerchantsFault {
     NotToml,
     /// 72: a key is no name of a merchant.
     BadName,
-    /// 73: a merchant has no table of exactly `single`, `multi` and perhaps `lead`, each a whole number.
+    /// 73: a merchant has no table of exactly the whole numbers `single`, `multi` and perhaps `lead`, and
+    /// perhaps `sweep`, the name of a caller.
     WrongType,
     /// 74: memory was refused, which says nothing of the text.
     Memory,

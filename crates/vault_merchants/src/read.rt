@@ -8,14 +8,15 @@ ghost use Rattle.vault_merchants.specs.Listed.{AreListed, AreRowsOf, IsRowOf};
 ghost use Rattle.vault_merchants.specs.declared.fault.MerchantsFault.TheVariants.{NotToml, Memory};
 
 use crate::fault::MerchantsFault;
-use crate::table::{lives_of, numbers_of};
+use crate::table::{lives_of, parts_of};
 use std::alloc::Global;
 use toml::{Table, Value};
-use vault_core::name::MerchantId;
+use vault_core::name::{Caller, MerchantId};
 use vault_pan::lead::Lead;
 
-/// A merchant of a list: its name, the life of its single-use tokens, that of its multi-use ones, its lead.
-pub type ListedMerchant = (MerchantId, u64, u64, Lead);
+/// A merchant of a list: its name, the life of its single-use tokens, that of its multi-use ones, its lead,
+/// and the caller by whom its dead tokens are purged, where one is.
+pub type ListedMerchant = (MerchantId, u64, u64, Lead, Option<Caller>);
 
 /// Reads a merchant's key and table.
 fn read_merchant(key: &str, value: &Value) -> Result<ListedMerchant, MerchantsFault>
@@ -30,11 +31,11 @@ fn read_merchant(key: &str, value: &Value) -> Result<ListedMerchant, MerchantsFa
     let Some(members) = value.as_table() else {
         return Err(MerchantsFault::WrongType);
     };
-    let Some(numbers) = numbers_of(members) else {
+    let Some((numbers, sweeper)) = parts_of(members) else {
         return Err(MerchantsFault::WrongType);
     };
     match lives_of(numbers) {
-        Some((single, multi, lead)) => Ok((name, single, multi, lead)),
+        Some((single, multi, lead)) => Ok((name, single, multi, lead, sweeper)),
         None => Err(MerchantsFault::BadLife),
     }
 }
@@ -77,7 +78,8 @@ fn read_document(alloc: Global, text: &[u8]) -> Result<Table, MerchantsFault>
 }
 
 /// Reads a list of merchants: those of its document, in the order of their names. Each has a table of exactly
-/// the whole numbers `single` and `multi`, lives in seconds, and perhaps `lead`, which is 6 or 8, and else 6.
+/// the whole numbers `single` and `multi`, lives in seconds, and perhaps `lead`, which is 6 or 8, and else 6;
+/// and perhaps `sweep`, the name of the caller by whom its dead tokens are purged.
 ///
 /// Refused are, in this order: 70 a text that is no TOML document; then, merchant by merchant in the order of
 /// their bytes, 72 a key that is no name, 73 what is no such table, and 76 a life out of range or another

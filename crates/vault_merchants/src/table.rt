@@ -1,23 +1,26 @@
-//! The whole numbers of a merchant's table, and the lives and the lead that they are.
+//! The whole numbers of a merchant's table, the lives and the lead that they are, and who sweeps.
 ghost use Rattle.std.specs.Prelude.{◌≡◌, ℕ, ℤ, Option, IfSome, IfNone, IsTrue, codes, option_map};
 ghost use Rattle.std.specs.Bool.{Decides};
-ghost use Rattle.toml.specs.Data.{get_member, integer};
+ghost use Rattle.toml.specs.Data.{get_member, integer, string};
 ghost use Rattle.toml.specs.View.{table_view};
+ghost use Rattle.vault_core.specs.Keys.{Bytes};
+ghost use Rattle.vault_core.specs.Name.{IsName};
 ghost use Rattle.vault_pan.specs.declared.lead.Lead.{Lead as LeadOf};
 ghost use Rattle.vault_merchants.specs.Listed.{AreLivesOf, HasOnly, IsKnown, IsLeadOf, IsLifeOf, IsTableOf};
 
 use toml::Table;
 use vault_core::limit::LONGEST_LIFE;
+use vault_core::name::Caller;
 use vault_pan::lead::Lead;
 
 /// The whole numbers of a table: those of its two lives, and of its lead, where it says one.
 pub(crate) type Numbers = (i64, i64, Option<i64>);
 
-/// Whether a key is one of the three.
+/// Whether a key is one of the four.
 fn is_known(key: &str) -> bool
     ensures { Decides result (IsKnown key.now) }
 {
-    key == "single" || key == "multi" || key == "lead"
+    key == "single" || key == "multi" || key == "lead" || key == "sweep"
 }
 
 /// Whether a table has no other key.
@@ -62,13 +65,47 @@ fn lead_at(members: &Table) -> Option<Option<i64>>
     Some(Some(number))
 }
 
-/// The numbers of a table of exactly these.
-pub(crate) fn numbers_of(members: &Table) -> Option<Numbers>
-    // numbers that are given are the table's, and it has nothing else
-    ensures are { IfSome result (λ it. IsTableOf (table_view members.now) it.0 it.1 it.2) }
-    // where none are given, the table isn't of exactly such numbers
-    ensures none { IfNone result ((single multi : ℤ) (lead : Option ℤ)
-        → ¬ IsTableOf (table_view members.now) single multi lead) }
+/// The caller whose name stands at a key, where one stands there.
+fn caller_at(members: &Table, key: &str) -> Option<Caller>
+    // a name that is given stands there
+    ensures stands { IfSome result (λ name. (get_member key.now (table_view members.now) ≡ Some (string name))
+        × IsName name) }
+    // where none is given, no name of a caller stands there
+    ensures none { IfNone result ((name : Bytes) → IsName name
+        → ¬ (get_member key.now (table_view members.now) ≡ Some (string name))) }
+{
+    let text = members.get(key)?.as_str()?;
+    match Caller::read(text.as_bytes()) {
+        Ok(name) => Some(name),
+        Err(_) => None,
+    }
+}
+
+/// The caller who sweeps by a table, or that it says none; nothing, where it says something else.
+fn sweeper_at(members: &Table) -> Option<Option<Caller>>
+    // a name that is given stands there, or nothing does
+    ensures stands { IfSome result
+        (λ name. (get_member (codes "sweep") (table_view members.now) ≡ option_map string name)
+        × IfSome name IsName) }
+    // where nothing is given, neither is so
+    ensures none { IfNone result ((name : Option Bytes) → IfSome name IsName
+        → ¬ (get_member (codes "sweep") (table_view members.now) ≡ option_map string name)) }
+{
+    match members.get("sweep") {
+        None => return Some(None),
+        Some(_) => {}
+    }
+    let name = caller_at(members, "sweep")?;
+    Some(Some(name))
+}
+
+/// The numbers of a table of exactly these, and who sweeps, where it says so.
+pub(crate) fn parts_of(members: &Table) -> Option<(Numbers, Option<Caller>)>
+    // parts that are given are the table's, and it has nothing else
+    ensures are { IfSome result (λ it. IsTableOf (table_view members.now) it.0.0 it.0.1 it.0.2 it.1) }
+    // where none are given, the table isn't of exactly such parts
+    ensures none { IfNone result ((single multi : ℤ) (lead : Option ℤ) (sweeper : Option Bytes)
+        → ¬ IsTableOf (table_view members.now) single multi lead sweeper) }
 {
     if !has_only_known(members) {
         return None;
@@ -76,7 +113,8 @@ pub(crate) fn numbers_of(members: &Table) -> Option<Numbers>
     let single = number_at(members, "single")?;
     let multi = number_at(members, "multi")?;
     let lead = lead_at(members)?;
-    Some((single, multi, lead))
+    let sweeper = sweeper_at(members)?;
+    Some(((single, multi, lead), sweeper))
 }
 
 /// The life that a number is.

@@ -9,11 +9,13 @@ use Rattle.vault_wire.specs.Parts.{Parts}
 use Rattle.vault_listen.specs.Live.{Turns}
 use Rattle.vault_live.specs.Turns.{Turn}
 use Rattle.vault_live.specs.Turns.Turn.{Lost, Served, Attended}
-use Rattle.vault_merchants.specs.Listed.{AreListed}
-use Rattle.vault_live.specs.Following.{AreRowsIn}
+use Rattle.vault_merchants.specs.Listed.{AreListed, Wanted}
+use Rattle.vault_live.specs.Following.{AreRowsIn, AreSettled}
 use Rattle.vault_live.specs.Kinds.{Naming, Wanting, merchants_changes, rights_changes}
+use Rattle.vault_live.specs.Sweeping.{IsSweeper}
 use Rattle.vault_live.specs.Turns.{AreAsked, Asking}
-use Rattle.vault_jobs.specs.Lists.{asked_by, asked_of, path_of}
+use Rattle.vault_live.specs.declared.sweeping.Sweeper.{Sweeper}
+use Rattle.vault_jobs.specs.Lists.{asked_by, asked_of, path_of, swept_by}
 use Rattle.vault_jobs.specs.Outside.{Outside}
 use Rattle.vault_jobs.specs.Streams.{Streams}
 use Rattle.vault_jobs.specs.declared.lists.ListFile.{ListFile}
@@ -27,37 +29,61 @@ use Rattle.vault_promise.specs.Told.{seen}
 module _ (at other : Outside) (so : (turn now : ℕ) → at.tells turn now → other.tells turn now)
     (seen : (path : List ℕ) (look : ℕ) (text : List ℕ) → at.looks path look text → other.looks path look text)
   where
+    -- a text that was settled is so where more is told
+    settled_more : {X : Type 0} (names : Naming X) (path : List ℕ) (rows : List X)
+        → AreSettled names (at.looks path) rows → AreSettled names (other.looks path) rows
+    settled_more names path rows (look, text, settled, are) = (
+      look,
+      text,
+      record {
+        before = settled.before;
+        next = settled.next;
+        first = seen path settled.before text settled.first;
+        again = seen path look text settled.again;
+      },
+      are,
+    )
+
     -- a list may ask for this also where more is told
     list_more : {X : Type 0} (names : Naming X) (wants : Wanting X) (o : Option (ListFile X)) (V : Content)
         (cs : List Command) → asked_by names wants at o V cs → asked_by names wants other o V cs
     list_more names wants None V cs never = absurd never
     list_more names wants (Some it) V cs asked =
-        let (look, text, settled, rows) = asked.settled in
         record {
           rows = asked.rows;
-          settled = (
-            look,
-            text,
-            record {
-              before = settled.before;
-              next = settled.next;
-              first = seen (path_of it) settled.before text settled.first;
-              again = seen (path_of it) look text settled.again;
-            },
-            rows,
-          );
+          settled = settled_more names (path_of it) asked.rows asked.settled;
           now = asked.now;
           told = so 0 asked.now asked.told;
           are = asked.are;
           proper = asked.proper;
         }
 
+    -- and so may its sweeps
+    sweeper_more : (began : List Wanted) (path : List ℕ) (it : Sweeper) → IsSweeper began (at.looks path) it
+        → IsSweeper began (other.looks path) it
+    sweeper_more began path it (rows, inl same, named) = (rows, inl same, named)
+    sweeper_more began path it (rows, inr settled, named) =
+        (rows, inr (settled_more AreListed path rows settled), named)
+
+    swept_more : (o : Option (ListFile Wanted)) (V : Content) (cs : List Command) → swept_by at o V cs
+        → swept_by other o V cs
+    swept_more None V cs never = absurd never
+    swept_more (Some it) V cs asked = record {
+      sweeper = asked.sweeper;
+      named = sweeper_more it.rows.items (path_of it) asked.sweeper asked.named;
+      now = asked.now;
+      told = so 0 asked.now asked.told;
+      are = asked.are;
+    }
+
     -- and so may a service
     pub looked_more : (lists : Lists) (V : Content) (cs : List Command) → asked_of at lists V cs
         → asked_of other lists V cs
     looked_more lists V cs (inl asked) =
         inl (list_more AreListed merchants_changes lists.merchants V cs asked)
-    looked_more lists V cs (inr asked) = inr (list_more AreRowsIn rights_changes lists.rights V cs asked)
+    looked_more lists V cs (inr (inl asked)) =
+        inr (inl (list_more AreRowsIn rights_changes lists.rights V cs asked))
+    looked_more lists V cs (inr (inr asked)) = inr (inr (swept_more lists.merchants V cs asked))
 
 -- so what was asked for in a turn
 asked_more : (asks other : Asking) → ((V : Content) (cs : List Command) → asks V cs → other V cs)

@@ -15,7 +15,7 @@ use Rattle.vault_http.specs.declared.served.Served.{Served as Ended}
 use Rattle.vault_listen.specs.Live.{Turns}
 use Rattle.vault_listen.specs.Peers.{Link}
 use Rattle.vault_listen.specs.Service.{Leads, link_from}
-use Rattle.vault_merchants.specs.Listed.{AreListed}
+use Rattle.vault_merchants.specs.Listed.{AreListed, Wanted}
 use Rattle.vault_live.specs.Following.{AreRowsIn}
 use Rattle.vault_live.specs.Kinds.{Naming, Wanting, merchants_changes, rights_changes}
 use Rattle.vault_live.specs.Turns.{AllKept, AllTurn, AreAsked, Asking, OneUndecided, Turn}
@@ -24,7 +24,7 @@ use Rattle.vault_live.specs.declared.news.News.{News}
 use Rattle.vault_listen.specs.declared.fault.ListenFault.TheVariants as listener
 use Rattle.vault_changes.specs.Settling.{IsUntouched}
 use Rattle.vault_jobs.specs.Doing.{ServeEnds}
-use Rattle.vault_jobs.specs.Lists.{asked_by, asked_of}
+use Rattle.vault_jobs.specs.Lists.{asked_by, asked_of, swept_by}
 use Rattle.vault_jobs.specs.Outside.{Outside}
 use Rattle.vault_jobs.specs.Streams.{Streams}
 use Rattle.vault_jobs.specs.declared.stop.Stop.{Stop}
@@ -383,11 +383,18 @@ list_proper : {X : Type 0} (names : Naming X) (wants : Wanting X) (at : Outside)
 list_proper names wants at None V cs never = absurd never
 list_proper names wants at (Some it) V cs asked = asked.proper
 
+sweeps_proper : (at : Outside) (o : Option (ListFile Wanted)) (V : Content) (cs : List Command)
+    → swept_by at o V cs → AllProper cs
+sweeps_proper at None V cs never = absurd never
+sweeps_proper at (Some it) V cs asked = asked.are.2
+
 -- what a service that follows lists may be asked for is proper, and might be asked whatever texts it saw
 pub asks_proper : (at : Outside) (lists : Lists) → AsksProper (asked_of at lists)
 asks_proper at lists V cs (inl asked) =
     list_proper AreListed merchants_changes at lists.merchants V cs asked
-asks_proper at lists V cs (inr asked) = list_proper AreRowsIn rights_changes at lists.rights V cs asked
+asks_proper at lists V cs (inr (inl asked)) =
+    list_proper AreRowsIn rights_changes at lists.rights V cs asked
+asks_proper at lists V cs (inr (inr asked)) = sweeps_proper at lists.merchants V cs asked
 
 pub asks_up : (at : Outside) (lists : Lists) (V : Content) (cs : List Command) → asked_of at lists V cs
     → asked_of (seen at.tells) lists V cs

@@ -21,7 +21,7 @@ use Rattle.vault_engine.specs.Passing.{IsBefore, Passage}
 use Rattle.vault_store.specs.declared.vault.Fault.TheVariants.{Memory, Store, Reopen}
 use Rattle.vault_listen.specs.Live.{Turns}
 use Rattle.vault_changes.proofs.GivenRights.{run_more}
-use Rattle.vault_jobs.proofs.Purging.{first_dead, purged_first}
+use Rattle.vault_changes.proofs.Purging.{first_dead, purged_first}
 use Rattle.vault_jobs.specs.Ahead.{MaySweep}
 use Rattle.vault_jobs.specs.Doing.{SweepEnds, TimedSweepEnds}
 use Rattle.vault_changes.specs.Grants.{AreDone}

@@ -48,7 +48,12 @@ impl<'a> TestClock<'a> {
     /// A clock that stands at 1000, and by which so many seconds pass each time that it is asked how many
     /// did.
     pub fn stepping(step: u64) -> TestClock<'a> {
-        TestClock::new(&[], Some(1000), step)
+        TestClock::stepping_at(1000, step)
+    }
+
+    /// The same at another number of seconds.
+    pub fn stepping_at(seconds: u64, step: u64) -> TestClock<'a> {
+        TestClock::new(&[], Some(seconds), step)
     }
 }
 

@@ -68,14 +68,15 @@ Options:
       --dry-run  Says what would change, and changes nothing
   -h, --help     Print help
 
-A list of merchants has a table for each, of whole numbers: how many seconds
-its single-use and its multi-use tokens live, where 0 offers none, and perhaps
-how many digits its masks show at the left, 6 or 8; 6, if left out:
+A list of merchants has a table for each: how many seconds its single-use and
+its multi-use tokens live, where 0 offers none; perhaps how many digits masks
+show at the left, 6 or 8; and perhaps who purges dead tokens under `serve`:
 
   [shop1]
   single = 86400
   multi = 31536000
   lead = 8
+  sweep = \"back\"
 
 Merchants that it doesn't have stay as they are.
 ";

@@ -4,7 +4,7 @@ use vault_merchants::read::{ListedMerchant, read_merchants};
 
 /// Lists, and their readings: each merchant with its lives and its lead, or the number of a refusal. Of two
 /// faulty merchants the first by name tells.
-const LISTS: [(&str, &str); 17] = [
+const LISTS: [(&str, &str); 23] = [
     ("", ""),
     ("[shop1]\nsingle = 60\nmulti = 0\n# end\n", "shop1 60 0 6;"),
     (
@@ -23,15 +23,33 @@ const LISTS: [(&str, &str); 17] = [
     ("[shop1]\nsingle = -1\nmulti = 2\n", "76"),
     ("[shop1]\nsingle = 1\nmulti = 3155760001\n", "76"),
     ("[shop1]\nsingle = 1\nmulti = 2\nlead = 7\n", "76"),
+    (
+        "[shop1]\nsingle = 1\nmulti = 2\nsweep = 'back'\n",
+        "shop1 1 2 6 back;",
+    ),
+    (
+        "[b]\nsingle = 1\nmulti = 2\nsweep = 'b-1'\n[a]\nsingle = 1\nmulti = 2\n",
+        "a 1 2 6;b 1 2 6 b-1;",
+    ),
+    ("[shop1]\nsingle = 1\nmulti = 2\nsweep = 'Back'\n", "73"),
+    ("[shop1]\nsingle = 1\nmulti = 2\nsweep = ''\n", "73"),
+    ("[shop1]\nsingle = 1\nmulti = 2\nsweep = 5\n", "73"),
+    ("[shop1]\nsingle = -1\nmulti = 2\nsweep = 'Back'\n", "73"),
     ("[b]\nsingle = 1\n[a]\nsingle = -1\nmulti = 0\n", "76"),
     ("[b]\nsingle = -1\nmulti = 0\n[A]\nsingle = 1\n", "72"),
 ];
 
-/// A merchant in words.
+/// A merchant in words; behind its lead stands who sweeps, where the list says so.
 fn row_told(alloc: Global, row: &ListedMerchant) -> String {
     let name = std::str::from_utf8(row.0.bytes()).unwrap_or("");
     let (single, multi, lead) = (row.1, row.2, row.3.digits());
-    let told = format!(in alloc; "{name} {single} {multi} {lead};");
+    let told = match row.4 {
+        Some(sweeper) => {
+            let sweeper = std::str::from_utf8(sweeper.bytes()).unwrap_or("");
+            format!(in alloc; "{name} {single} {multi} {lead} {sweeper};")
+        }
+        None => format!(in alloc; "{name} {single} {multi} {lead};"),
+    };
     told.unwrap_or(String::new(alloc))
 }
 

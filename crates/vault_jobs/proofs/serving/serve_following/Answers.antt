@@ -5,8 +5,9 @@ use Rattle.vault_merchants.specs.Listed.{AreListed}
 use Rattle.vault_listen.specs.Peers.{vault_passing}
 use Rattle.vault_live.specs.Following.{AreRowsIn, Asks}
 use Rattle.vault_live.specs.Kinds.{merchants_changes, rights_changes}
+use Rattle.vault_live.specs.Sweeping.{AsksPurges}
 use Rattle.vault_live.specs.Turns.{Asking}
-use Rattle.vault_jobs.proofs.Followed.{acts_not, asks_as, neither, not_first, not_second}
+use Rattle.vault_jobs.proofs.Followed.{acts_not, asks_as, asks_listed, neither, not_first, not_second}
 use Rattle.vault_jobs.specs.Doing.{ServeEnds}
 use Rattle.vault_jobs.specs.Lists.{follows, path_of}
 use Rattle.vault_jobs.proofs.serving.serve_following.Given.{Over}
@@ -18,27 +19,38 @@ returns-clause-does g c =
     let does = c.serve_at.ensures.does in
     let tells = g.K.Timekeeper.tells c.args.time.now in
     let says = g.D.Desk.says in
+    let desk = c.args.desk.now in
     let ends : Asking → Type 0 = λ asks. ServeEnds tells asks c.args.port c.args.connections
     (vault_passing g.T.Tables.is_honest g.T.Tables.holds g.T.Tables.leaves c.args.vault.now
     c.serve_at.new.vault) c.serve_at.result
     (c.serve_at.new.output ≡ c.args.output.now) (g.W.Write.contents c.args.output.now.inner)
     (g.W.Write.contents c.serve_at.new.output.inner) c.serve_at.new.output.stopped does.0 in
     let lists = c.args.lists.now in
-    let first = asks_as (λ f. f.desk.now) (λ f. f.path.now) (λ it. path_of it) c.args.desk.now
+    let sets : Asking = λ V cs. IsSomeAnd lists.merchants
+    (λ it. Asks AreListed merchants_changes (says desk (path_of it)) tells V cs) in
+    let gives : Asking = λ V cs. IsSomeAnd lists.rights
+    (λ it. Asks AreRowsIn rights_changes (says desk (path_of it)) tells V cs) in
+    let rights_office : Asking = λ V cs. IsSomeAnd c.office_of-2.result.office
+    (λ f. Asks AreRowsIn rights_changes (says f.desk.now f.path.now) tells V cs) in
+    let sweeps_office : Asking = λ V cs. IsSomeAnd c.sweeps_of.result.office
+    (λ f. AsksPurges f.began.now (says f.list.desk.now f.list.path.now) tells V cs) in
+    let first = asks_as (λ f. f.desk.now) (λ f. f.path.now) (λ it. path_of it) desk
     c.office_of.result.office lists.merchants c.office_of.ensures.desk c.office_of.ensures.path
     (λ d p V cs. Asks AreListed merchants_changes (says d p) tells V cs)
-    (λ asks. ends (λ V cs. asks V cs ⊎ IsSomeAnd c.office_of-2.result.office
-    (λ f. Asks AreRowsIn rights_changes (says f.desk.now f.path.now) tells V cs))) does.2 in
-    let both = asks_as (λ f. f.desk.now) (λ f. f.path.now) (λ it. path_of it) c.args.desk.now
+    (λ asks. ends (λ V cs. asks V cs ⊎ rights_office V cs ⊎ sweeps_office V cs)) does.2 in
+    let second = asks_as (λ f. f.desk.now) (λ f. f.path.now) (λ it. path_of it) desk
     c.office_of-2.result.office lists.rights c.office_of-2.ensures.desk c.office_of-2.ensures.path
     (λ d p V cs. Asks AreRowsIn rights_changes (says d p) tells V cs)
-    (λ asks. ends (λ V cs. IsSomeAnd lists.merchants
-    (λ it. Asks AreListed merchants_changes (says c.args.desk.now (path_of it)) tells V cs) ⊎ asks V cs))
-    first in
-    (does.0, does.1, both)
+    (λ asks. ends (λ V cs. sets V cs ⊎ asks V cs ⊎ sweeps_office V cs)) first in
+    let third = asks_listed (λ f. f.list.desk.now) (λ f. f.list.path.now) (λ it. path_of it) desk
+    (λ f. f.began.now) (λ it. it.rows.items) c.sweeps_of.result.office lists.merchants
+    c.sweeps_of.ensures.desk c.sweeps_of.ensures.path c.sweeps_of.ensures.rows
+    (λ d p rows V cs. AsksPurges rows (says d p) tells V cs)
+    (λ asks. ends (λ V cs. sets V cs ⊎ gives V cs ⊎ asks V cs)) second in
+    (does.0, does.1, third)
 
 module _ (g : Over) (c : After-serve_at g) (none : follows c.args.lists.now ≡ false) where
-  -- where nothing is followed, neither office acts
+  -- where nothing is followed, no office acts
   idle_first : option_map_or (λ f. true) c.office_of.result.office false ≡ false
   idle_first = acts_not (λ f. f.path.now) (λ it. path_of it) c.office_of.result.office
       c.args.lists.now.merchants c.office_of.ensures.path (λ f. true) (not_first _ _ none)
@@ -47,12 +59,18 @@ module _ (g : Over) (c : After-serve_at g) (none : follows c.args.lists.now ≡ 
   idle_second = acts_not (λ f. f.path.now) (λ it. path_of it) c.office_of-2.result.office
       c.args.lists.now.rights c.office_of-2.ensures.path (λ f. true) (not_second _ _ none)
 
+  idle_third : option_map_or (λ f. true) c.sweeps_of.result.office false ≡ false
+  idle_third = acts_not (λ f. f.list.path.now) (λ it. path_of it) c.sweeps_of.result.office
+      c.args.lists.now.merchants c.sweeps_of.ensures.path (λ f. true) (not_first _ _ none)
+
 pub returns-clause-store : goal.returns-clause-store
 returns-clause-store g c = λ none.
     let it = (goal.at.returns-clause-store g c).After-serve_at in
-    c.serve_at.ensures.store (neither _ _ (idle_first g it none) (idle_second g it none))
+    c.serve_at.ensures.store (neither _ _ (idle_first g it none)
+    (neither _ _ (idle_second g it none) (idle_third g it none)))
 
 pub returns-clause-writer_ok : goal.returns-clause-writer_ok
 returns-clause-writer_ok g c = λ none.
     let it = (goal.at.returns-clause-writer_ok g c).After-serve_at in
-    c.serve_at.ensures.writer_ok (neither _ _ (idle_first g it none) (idle_second g it none))
+    c.serve_at.ensures.writer_ok (neither _ _ (idle_first g it none)
+    (neither _ _ (idle_second g it none) (idle_third g it none)))

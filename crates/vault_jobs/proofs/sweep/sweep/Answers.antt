@@ -2,7 +2,7 @@ use Rattle.std.proofs.Common.{◌≡◌, ◌≤◌, ◌∙◌, Err, ap, arith, l
 use Rattle.std.proofs.lemmas.Grind.{common_steps}
 use Rattle.std.proofs.lemmas.Bool.Decides.{nat_tests}
 use Rattle.vault_store.specs.Applied.{is_broken}
-use Rattle.vault_jobs.proofs.Purging.{purges_carried}
+use Rattle.vault_changes.proofs.Purging.{purges_carried}
 use Rattle.vault_changes.proofs.GivenRights.{unbroken}
 use Rattle.vault_jobs.proofs.Sweeping.{all_swept, never_ends, none_yet, page_refused, page_stopped}
 use Rattle.vault_jobs.proofs.Sweeping.{page_swept, unread}
@@ -17,7 +17,8 @@ loop-init g c = (
 )
 
 pub carry_all-requires-clause-carried : goal.carry_all-requires-clause-carried
-carry_all-requires-clause-carried g c = purges_carried c.args.asker.now c.args.now c.as_slice.result.now
+carry_all-requires-clause-carried g c =
+    purges_carried c.args.asker.now.caller c.args.asker.now.merchant c.args.now c.as_slice.result.now
 
 pub returns-in-Err-clause-swept : goal.returns-in-Err-clause-swept
 returns-in-Err-clause-swept g c =

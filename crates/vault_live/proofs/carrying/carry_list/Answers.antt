@@ -1,8 +1,11 @@
-use Rattle.std.proofs.Common.{◌∙◌, ap, inr, subst, sym}
+use Rattle.std.proofs.Common.{◌∙◌, All, ap, inr, subst, sym}
 use Rattle.vault_live.proofs.Attending.{attend_failed, attend_none, attend_refused, attends_first}
 use Rattle.vault_live.proofs.Attending.{settled_first}
+use Rattle.std.proofs.lemmas.List.{map-id}
 use Rattle.vault_live.specs.Carrying.{AsksRows}
-use Rattle.vault_live.specs.Kinds.{AreSteps}
+use Rattle.vault_live.specs.First.{Ends}
+use Rattle.vault_core.specs.Proper.{AllProper}
+use Rattle.vault_live.specs.Kinds.{KeepsRefused}
 use Rattle.vault_live.specs.declared.news.News.TheVariants.{Refused}
 use Rattle.vault_listen.specs.Peers.{vault_passing}
 use Rattle.vault_store.specs.Applied.{is_broken}
@@ -44,24 +47,37 @@ pub returns-clause-attends : goal.returns-clause-attends
 returns-clause-attends g c =
     attends_first g.T.Tables.is_honest g.T.Tables.holds g.T.Tables.leaves c.args.vault.now
     c.changes.new.vault c.carry_first-carried.new.vault c.carry_first-carried.ensures.disk_honest
-    (λ V b. (c.in-Ok-Ok.ensures.found V b).1) g.L.Kind.about g.L.Kind.wants c.args.now
-    c.args.rows.now c.as_slice-commands.result.now c.carry_first-carried.result.done
-    (λ V b. c.as_slice-commands.ensures.value
-    ∙ ((rw c.in-Ok-Ok.field-0-is at c.in-Ok-Ok.ensures.found) V b).0)
-    (λ V b. subst AreSteps (sym c.as_slice-commands.ensures.value)
-    ((rw c.in-Ok-Ok.field-0-is at c.in-Ok-Ok.ensures.steps) V b))
-    c.carry_first-carried.result.end c.outcome.result c.carry_first-carried.ensures.ends
+    (λ V b. (c.in-Ok-Ok.ensures.found V b).1) (AsksRows g.L.Kind.wants c.args.now c.args.rows.now)
+    c.as_slice-commands.result.now c.carry_first-carried.result.done
+    (λ V b. (
+      c.as_slice-commands.ensures.value ∙ ((rw c.in-Ok-Ok.field-0-is at c.in-Ok-Ok.ensures.found) V b).0,
+      subst AllProper (sym c.as_slice-commands.ensures.value)
+          ((rw c.in-Ok-Ok.field-0-is at c.in-Ok-Ok.ensures.steps) V b).proper,
+    ))
+    (λ V b. subst (All KeepsRefused) (sym c.as_slice-commands.ensures.value)
+    ((rw c.in-Ok-Ok.field-0-is at c.in-Ok-Ok.ensures.steps) V b).keeps)
+    c.carry_first-carried.result.end c.outcome.result
+    (subst (λ ds. Ends c.carry_first-carried.result.end c.carry_first-carried.result.done ds
+    (vault_passing g.T.Tables.is_honest g.T.Tables.holds g.T.Tables.leaves c.changes.new.vault
+    c.carry_first-carried.new.vault)) (map-id c.as_slice-commands.result.now)
+    c.carry_first-carried.ensures.ends)
     c.outcome.ensures.said c.outcome.ensures.store c.outcome.ensures.fault
 
 pub returns-clause-settled : goal.returns-clause-settled
 returns-clause-settled g c =
     settled_first g.T.Tables.is_honest g.T.Tables.holds g.T.Tables.leaves c.args.vault.now
     c.changes.new.vault c.carry_first-carried.new.vault c.carry_first-carried.ensures.disk_honest
-    (λ V b. (c.in-Ok-Ok.ensures.found V b).1) g.L.Kind.about g.L.Kind.wants c.args.now
-    c.args.rows.now c.as_slice-commands.result.now c.carry_first-carried.result.done
+    (λ V b. (c.in-Ok-Ok.ensures.found V b).1) (λ V cs. Unit {0})
+    c.as_slice-commands.result.now c.carry_first-carried.result.done
+    (λ V b. tt)
+    (λ V b. subst (All KeepsRefused) (sym c.as_slice-commands.ensures.value)
+    ((rw c.in-Ok-Ok.field-0-is at c.in-Ok-Ok.ensures.steps) V b).keeps)
+    g.L.Kind.about g.L.Kind.wants c.args.now c.args.rows.now
     (λ V b. c.as_slice-commands.ensures.value
     ∙ ((rw c.in-Ok-Ok.field-0-is at c.in-Ok-Ok.ensures.found) V b).0)
-    (λ V b. subst AreSteps (sym c.as_slice-commands.ensures.value)
-    ((rw c.in-Ok-Ok.field-0-is at c.in-Ok-Ok.ensures.steps) V b))
-    c.carry_first-carried.result.end c.outcome.result c.carry_first-carried.ensures.ends
+    c.carry_first-carried.result.end c.outcome.result
+    (subst (λ ds. Ends c.carry_first-carried.result.end c.carry_first-carried.result.done ds
+    (vault_passing g.T.Tables.is_honest g.T.Tables.holds g.T.Tables.leaves c.changes.new.vault
+    c.carry_first-carried.new.vault)) (map-id c.as_slice-commands.result.now)
+    c.carry_first-carried.ensures.ends)
     c.outcome.ensures.left c.outcome.ensures.refused

@@ -32,10 +32,9 @@ use Rattle.vault_core.proofs.Finds.{find-lookup, find-passes, some_same, true-T}
 use Rattle.vault_core.proofs.Maps.{bytes_exact, bytes_total, entry_exact, entry_total, get-insert_same}
 use Rattle.vault_core.proofs.Maps.{retained-yes, tied}
 use Rattle.vault_core.proofs.Walks.{by_token}
-use Rattle.vault_batch.specs.declared.asker.Asker.{Asker}
 use Rattle.vault_changes.proofs.Changing.{each_carried}
 use Rattle.vault_changes.specs.Carried.{IsCarriedOut, Verdict, reply_of}
-use Rattle.vault_jobs.specs.Sweeps.{purge_at, purges_at}
+use Rattle.vault_changes.specs.Purges.{purges_of}
 
 -- what stands first among those that pass is what a search finds
 first_found : {X : Type 0} (p : X → Bool) (xs : List X) (x : X) (rest : List X) → filter p xs ≡ x ∷ rest
@@ -131,7 +130,7 @@ refused_leaves caller m token now V n =
     ended known entry (Kept number Expired) = λ e. cc
 
 -- an entry that stands at a key among a merchant's is the vault's
-own_entry : (V : Content) (m : Bytes) (key : Bytes × Bytes) (entry : Entry)
+pub own_entry : (V : Content) (m : Bytes) (key : Bytes × Bytes) (entry : Entry)
     → map.get (entries_of V m) key ≡ Some entry → (m ≡ key.0) × (map.get V.entries key ≡ Some entry)
 own_entry V m key entry found =
     elim (tied bytes_exact m key.0) [
@@ -271,9 +270,9 @@ module _ (V : Content) (caller m token : Bytes) (now : ℕ) (rest : List Bytes)
       ended known entry is here (Kept number Expired) found _ = without known entry is here
 
 -- each of the commands that purge these tokens is done or refused
-pub purges_carried : (who : Asker) (now : ℕ) (tokens : List Bytes)
-    → All IsCarriedOut (purges_at who now tokens)
-purges_carried who now = each_carried (purge_at who now) (λ token. record {
+pub purges_carried : (caller m : Bytes) (now : ℕ) (tokens : List Bytes)
+    → All IsCarriedOut (purges_of caller m now tokens)
+purges_carried caller m now = each_carried (λ token. Purge caller m token now) (λ token. record {
   lives = tt;
-  verdict = purged_or_refused who.caller who.merchant token now;
+  verdict = purged_or_refused caller m token now;
 })

@@ -1,6 +1,6 @@
 use Rattle.std.proofs.Common.{◌∙◌, sym}
-use Rattle.vault_jobs.proofs.MerchantMoments.{found_at, passed_at}
-use Rattle.vault_jobs.proofs.ahead.moment_by.Goals as goal
+use Rattle.vault_changes.proofs.MerchantMoments.{found_at, passed_at}
+use Rattle.vault_changes.proofs.moments.moment_by.Goals as goal
 
 pub returns-then-eq : goal.returns-then-eq
 returns-then-eq c =

@@ -16,7 +16,7 @@ use Rattle.vault_core.specs.Vault.{Vault as Content, Merchant, merchant_at}
 use Rattle.vault_core.specs.Window.{row_of}
 use Rattle.vault_core.specs.declared.row.MerchantRow.{MerchantRow}
 use Rattle.vault_store.specs.Listed.{merchant_rows}
-use Rattle.vault_jobs.specs.Ahead.{is_far_ahead, is_merchant_ahead, moment_among}
+use Rattle.vault_changes.specs.Moments.{moment_among, moment_in}
 
 -- the rows from one on begin with it
 begun_at : (rows : List (Bytes × MerchantRow)) (m : Bytes) (i : ℕ) (row : Bytes × MerchantRow)
@@ -71,22 +71,7 @@ among_entries V m (e ∷ es) =
     ])
 
 -- it is the moment of the vault's merchant
-among_rows : (V : Content) (m : Bytes) → moment_among m (merchant_rows V)
-    ≡ option_map (λ (known : Merchant). known.moment) (merchant_at V m)
+pub among_rows : (V : Content) (m : Bytes) → moment_among m (merchant_rows V) ≡ moment_in V m
 among_rows V m =
     among_entries V m (finmap.entries V.merchants)
     ∙ ap (option_map (λ (known : Merchant). known.moment)) (sym (finmap.get-entries V.merchants m))
-
-mapped : (now : ℕ) (o : Option Merchant)
-    → option_map_or (is_far_ahead now) (option_map (λ (known : Merchant). known.moment) o) false
-    ≡ option_map_or (λ (known : Merchant). is_far_ahead now known.moment) o false
-mapped now None = refl
-mapped now (Some known) = refl
-
--- what is so of the rows is so of the vault
-pub ahead_in : (V : Content) (m : Bytes) (now : ℕ) (rows : List (Bytes × MerchantRow)) (found : Bool)
-    → found ≡ option_map_or (is_far_ahead now) (moment_among m rows) false → rows ≡ merchant_rows V
-    → found ≡ is_merchant_ahead V m now
-ahead_in V m now rows found is same =
-    is ∙ ap (λ o. option_map_or (is_far_ahead now) o false) (ap (moment_among m) same ∙ among_rows V m)
-    ∙ mapped now (merchant_at V m)

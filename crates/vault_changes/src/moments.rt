@@ -1,0 +1,78 @@
+//! The moments of a vault's merchants, and how they stand to the clock's.
+ghost use Rattle.std.specs.Prelude.{◌≡◌, Err, IfErr, IfOk, Option, false};
+ghost use Rattle.vault_core.specs.Vault.{Vault as Content};
+ghost use Rattle.vault_store.specs.Applied.{is_broken, tables_of};
+ghost use Rattle.vault_engine.specs.Passing.{IsBefore, Keeps, Passage};
+ghost use Rattle.vault_listen.specs.Peers.{vault_passing};
+ghost use Rattle.vault_changes.specs.Failing.{BreaksByStore};
+ghost use Rattle.vault_changes.specs.Moments.{is_far_ahead as is_far_ahead_of};
+ghost use Rattle.vault_changes.specs.Moments.{is_far_behind as is_far_behind_of};
+ghost use Rattle.vault_changes.specs.Moments.{moment_among, moment_in};
+ghost use Rattle.vault_changes.specs.Settling.{FailsToRead};
+
+use vault_core::moment::Moment;
+use vault_core::name::MerchantId;
+use vault_store::listing::NamedRow;
+use vault_store::tables::Tables;
+use vault_store::vault::{Fault, Vault};
+
+/// The most seconds by which a merchant's moment may be ahead of the clock's: those of a day.
+const MOST_AHEAD: u64 = 86_400;
+
+/// The most seconds by which it may be behind: those of 31 days.
+const MOST_BEHIND: u64 = 2_678_400;
+
+/// Whether a merchant's moment is more than a day ahead of this one.
+pub fn is_far_ahead(moment: Moment, now: Moment) -> bool
+    ensures { result ≡ is_far_ahead_of now moment }
+{
+    moment.seconds() > now.seconds() + MOST_AHEAD
+}
+
+/// Whether it is more than 31 days behind this one.
+pub fn is_far_behind(moment: Moment, now: Moment) -> bool
+    ensures { result ≡ is_far_behind_of now moment }
+{
+    now.seconds() > moment.seconds() + MOST_BEHIND
+}
+
+/// The moment of a merchant by the first row that has its name.
+fn moment_by(rows: &[NamedRow], merchant: MerchantId) -> Option<Moment>
+    ensures { result ≡ moment_among merchant rows.now }
+{
+    for (name, row) in rows {
+        if *name == merchant {
+            return Some(row.moment);
+        }
+    }
+    None
+}
+
+/// The moment of a merchant, where the vault knows it. Nothing changes.
+///
+/// 20 Memory: memory was refused. 21 Store: the store failed.
+pub fn moment_of<T: Tables>(
+    vault: &mut Vault<T>,
+    merchant: MerchantId,
+) -> Result<Option<Moment>, Fault>
+    // the vault isn't broken
+    requires { is_broken vault.old ≡ false }
+    // on an honest disk, Ok says it of each vault that was held, and that one is held still, after a crash
+    // too
+    ensures told { let w : Passage = vault_passing T.is_honest T.holds T.leaves vault.old vault.new in
+        IfOk result (λ moment. (V : Content) → IsBefore w V
+        → (moment ≡ moment_in V merchant) × Keeps w V) }
+    // on an honest disk, Memory keeps a vault that was held, and Store breaks it, but a crash leaves it;
+    // Reopen never comes
+    ensures failed { let w : Passage = vault_passing T.is_honest T.holds T.leaves vault.old vault.new in
+        IfErr result (FailsToRead w (is_broken vault.new)) }
+    // the vault is broken after Store only
+    ensures broken { BreaksByStore vault.new result }
+    // a disk that is honest after the call was so before it
+    ensures disk_honest { T.is_honest (tables_of vault.new) → T.is_honest (tables_of vault.old) }
+{
+    match vault.merchants() {
+        Ok(rows) => Ok(moment_by(rows.as_slice(), merchant)),
+        Err(fault) => Err(fault),
+    }
+}

@@ -1,0 +1,9 @@
+use Rattle.std.proofs.Common.{take}
+use Rattle.std.specs.List.{flat_map}
+use Rattle.std.specs.Io.KnownBytes.{Appends}
+use Rattle.vault_live.proofs.told.tell_bytes.Given as goal
+
+abbrev pub invariant-loop-part : goal.invariant-loop-part
+invariant-loop-part g l =
+    Appends (g.W.Write.contents l.initial.writer.inner) (g.W.Write.contents l.writer.inner)
+    (flat_map (λ part. part.now) (take l.part-index l.parts))
