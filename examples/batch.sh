@@ -96,7 +96,7 @@ lines wanted 11,refused,7
 step "so is one for a merchant that isn't known" '(1), these lines' \
     "$(compare one wanted vault.db till-1 shop2)"
 echo 'refused 4' > wanted
-step "a name that is none is refused before a row" '(1), these lines' \
+step "a name that is none is refused before a row" 'vault: CALLER is no name (1), these lines' \
     "$(compare one wanted none.db Till-1 shop1)"
 step "and no file is made" 'none' "$([ -e none.db ] && echo made || echo none)"
 step "a merchant is missing in the words" 'vault: bad words *<MERCHANT> (2), no line' \
@@ -160,5 +160,5 @@ step "42, 46: and the file is as it was" 'sound 1 9 11 (0)' "$(checked vault.db)
 # Nothing that is said beside the lines has a card number, or as many digits as one.
 said=$(wc -l < errors | tr -d ' ')
 found=$(grep -c '[0-9][0-9 -]\{8,\}[0-9]' errors || true)
-step "no card number is on standard error" '12 lines, 0 with one' "$said lines, $found with one"
+step "no card number is on standard error" '13 lines, 0 with one' "$said lines, $found with one"
 end

@@ -23,7 +23,9 @@ step "0: and still isn't" 'no' "$([ -e new.db ] && echo yes || echo no)"
 : > blank.db
 step "0: a file without a byte" 'sound 0 0 0 (0)' "$(checked blank.db)"
 step "0: which isn't written, and gets no log" 'blank.db 0' "$(echo blank.db*) $(wc -c < blank.db)"
-step "0: it is made" 'schema 4 (0)' "$(told "$program" migrate new.db)"
+made='vault: there was no vault in FILE, and an empty one is made'
+step "0: it is made" "schema 4|$made (0)" "$(told "$program" migrate new.db)"
+step "0: and then it is there" 'schema 4 (0)' "$(told "$program" migrate new.db)"
 step "0: help" 'Keeps card numbers*' "$(told "$program" help)"
 step "0: the version" 'vault 0.4.0, schema 4 (0)' "$(told "$program" --version)"
 step "0: a merchant" 'done (0)' "$(told "$program" merchant shop.db shop1 86400 0)"
@@ -34,17 +36,24 @@ step "0: a right with an end" 'done (0)' \
     "$(told "$program" grant --until 253402300799 shop.db till-1 shop1 audit)"
 step "0: a right whose end has passed" 'done (0)' \
     "$(told "$program" grant --until 0 shop.db till-1 shop1 audit)"
-step "0: a right is taken away" 'done (0)' "$(told "$program" withdraw shop.db till-1 shop1 view)"
+step "0: a right is taken away" 'done (0)' "$(told "$program" withdraw shop.db till-1 shop1 audit)"
+step "0: it isn't there any more" 'done|vault: there was nothing to withdraw (0)' \
+    "$(told "$program" withdraw shop.db till-1 shop1 audit)"
 printf '[till-1]\nshop1 = ["view", "tokenize", "view"]\n[back]\nshop1 = ["purge"]\n' > rights.toml
 printf '[till-2]\nshop1 = ["view", { right = "tokenize", until = 253402300799 }]\n' > ends.toml
 step "0: the rights of a file" 'granted 3 (0)' "$(told "$program" rights shop.db rights.toml)"
 step "0: and those of a file with an end" 'granted 2 (0)' "$(told "$program" rights shop.db ends.toml)"
 step "0: a sweep where nothing is dead" 'purged 0 (0)' "$(told "$program" sweep shop.db back shop1)"
+step "0: and one of a merchant that isn't known" 'purged 0|vault: there is no such merchant (0)' \
+    "$(told "$program" sweep shop.db shop1 back)"
 step "0: nothing is asked in a pipe" ' (0)' "$(told "$program" pipe shop.db < /dev/null)"
 
 # 1
-step "1: a bad name" 'refused 4 (1)' "$(told "$program" merchant none.db Shop1 60 0)"
-step "1: a word that is no right" 'refused 71 (1)' "$(told "$program" grant none.db till-1 shop1 sell)"
+step "1: a bad name" 'refused 4|vault: NAME is no name (1)' "$(told "$program" merchant none.db Shop1 60 0)"
+step "1: a word that is no right" 'refused 71|vault: RIGHT is no right (1)' \
+    "$(told "$program" grant none.db till-1 shop1 sell)"
+step "1: a bad caller, which isn't shown" 'refused 4|vault: CALLER is no name (1)' \
+    "$(told "$program" grant none.db 4111-1111-1111-1111. shop1 view)"
 echo '[till-1' > text.toml
 step "1: a rights file that is none" 'refused 70 (1)' "$(told "$program" rights none.db text.toml)"
 printf '[till-1]\nshop1 = [{ right = "sell", until = -1 }]\n' > word.toml
@@ -58,7 +67,8 @@ step "1: a rights file with a table without an end" 'refused 73 (1)' \
 printf '[till-1]\nshop1 = [{ right = "view", until = 253402300800 }]\n' > end.toml
 step "1: a rights file with a bad end" 'refused 75 (1)' "$(told "$program" rights none.db end.toml)"
 step "1: and no file is made" 'none' "$([ -e none.db ] && echo made || echo none)"
-step "1: a bad name of a sweep" 'refused 4 (1)' "$(told "$program" sweep none.db Back shop1)"
+step "1: a bad name of a sweep" 'refused 4|vault: MERCHANT is no name (1)' \
+    "$(told "$program" sweep none.db back Shop1)"
 step "1: a merchant that isn't known" 'refused 7 (1)' "$(told "$program" grant shop.db till-1 shop2 view)"
 
 # 2
@@ -119,12 +129,12 @@ step "4: a thousand were answered" '1000' "$(tr '{' '\n' < answers | grep -c '^"
 # Modes
 for mask in 000 0777; do
     made=$(umask "$mask" && "$program" migrate "mode$mask.db" 2>&1 || true)
-    step "a file made under umask $mask" 'schema 4 -rw-------' "$made $(mode "mode$mask.db")"
+    step "a file made under umask $mask" 'schema 4*is made -rw-------' "$made $(mode "mode$mask.db")"
 done
 : > open.db
 chmod 644 open.db
-step "an existing file keeps its mode" 'schema 4 -rw-r--r--' \
-    "$("$program" migrate open.db) $(mode open.db)"
+step "an existing file keeps its mode" 'schema 4*is made -rw-r--r--' \
+    "$("$program" migrate open.db 2>&1) $(mode open.db)"
 
 # The log of a file
 step "a file alone says nothing of a log" 'sound 0 0 0 (0)' \

@@ -70,8 +70,10 @@ masked='411111\*\*\*\*\*\*1111'
 step "and nothing is purged" \
     "{\"birth\":1010,\"expires\":1070,\"masked\":\"$masked\",\"state\":\"expired\",\"use\":\"single\"} 200" \
     "$(back_at 1070 GET "$tokens/$second")"
-step "a merchant that isn't known has no dead token" 'purged 0 (0)' "$(sweep_at 1070 vault.db back shop2)"
-step "a name that is none is refused" 'refused 4 (1)' "$(sweep_at 1070 none.db Back shop1)"
+step "a merchant that isn't known has no dead token" 'purged 0|vault: there is no such merchant (0)' \
+    "$(sweep_at 1070 vault.db back shop2)"
+step "a name that is none is refused" 'refused 4|vault: CALLER is no name (1)' \
+    "$(sweep_at 1070 none.db Back shop1)"
 step "and no file is made" 'none' "$([ -e none.db ] && echo made || echo none)"
 step "a merchant is missing in the words" 'vault: bad words|*|  <MERCHANT> (2)' \
     "$(sweep_at 1070 vault.db back)"
@@ -96,5 +98,7 @@ step "a merchant is set in a far year" 'done (0)' \
     "$(told "$program" merchant --now 253402300799 vault.db shop2 60 0)"
 step "it isn't swept at the clock's moment" 'refused 81 (1)' "$(told "$program" sweep vault.db back shop2)"
 step "but at one of the words" 'purged 0 (0)' "$(sweep_at 2060 vault.db back shop2)"
-step "and another merchant is" 'purged 0 (0)' "$(told "$program" sweep vault.db back shop1)"
+ahead="vault: the clock is more than 31 days ahead of the merchant's last moment"
+step "and another merchant is, whose moment is long past" "purged 0|$ahead (0)" \
+    "$(told "$program" sweep vault.db back shop1)"
 end

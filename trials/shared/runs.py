@@ -10,6 +10,14 @@ from typing import NamedTuple
 SECONDS = float(os.environ.get("SECONDS_EACH", "30"))
 # What a check says beside its line.
 HAS_LOG = b"vault: the file has a log, FILE-wal, and a copy needs both\n"
+# What else is said beside the line of a run that is done.
+NOTES = (
+    HAS_LOG,
+    b"vault: there was no vault in FILE, and an empty one is made\n",
+    b"vault: there is no such merchant\n",
+    b"vault: the clock is more than 31 days ahead of the merchant's last moment\n",
+    b"vault: there was nothing to withdraw\n",
+)
 WORKERS = int(os.environ.get("WORKERS", os.cpu_count() or 1))
 
 
@@ -22,8 +30,11 @@ class Ran(NamedTuple):
 
     @property
     def told(self):
-        """The line of its ending, without `vault: ` before it. That a file has a log is no ending."""
-        return self.err.removesuffix(HAS_LOG).decode("ascii", "replace").strip().removeprefix("vault: ")
+        """The line of its ending, without `vault: ` before it. What is noted of a run that is done is none."""
+        ending = self.err
+        for note in NOTES:
+            ending = ending.removesuffix(note)
+        return ending.decode("ascii", "replace").strip().removeprefix("vault: ")
 
     def is_like(self, other):
         """Whether both ended alike, and wrote the same."""

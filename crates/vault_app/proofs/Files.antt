@@ -23,6 +23,7 @@ use Rattle.vault_file.specs.declared.fault.NotOpened.TheVariants as file
 use Rattle.vault_jobs.proofs.RefinedTasks.{refined}
 use Rattle.vault_jobs.specs.Doing.{Does}
 use Rattle.vault_jobs.specs.Streams.{Streams}
+use Rattle.vault_jobs.specs.declared.note.Note.{Note as TaskNote}
 use Rattle.vault_jobs.specs.declared.stop.Stop.{Stop}
 use Rattle.vault_jobs.specs.declared.task.Outcome.{Outcome}
 use Rattle.vault_jobs.specs.declared.task.Outcome.TheVariants as outcome
@@ -48,7 +49,8 @@ module _ {D : Type 0} {g : Ghosts D} {T : Type 0} (conn_of : T → Held (FileSto
       × (HasCleanDisk (file_state (conn_of t)) → Holds (file_state (conn_of t)) V × Past t V)
 
   pub works : (at : Outside) (Holding : Image → Type 0) (v v' : Vault T) (left : FileStore D g)
-      (task : Task) (r : Result Outcome Stop) (broken : Bool) (unread unsent : Type 0) (s : Streams)
+      (task : Task) (r : Result Outcome Stop) (it : Option TaskNote) (broken : Bool)
+      (unread unsent : Type 0) (s : Streams)
       → Each Holding (λ image. OpensFrom image (conn_of v.tables)) → (failed v.tables ≡ false)
       × ((V : Content) → Past v.tables V)
       → (HasCleanDisk (file_state (conn_of v'.tables)) → HasCleanDisk (file_state (conn_of v.tables)))
@@ -56,9 +58,9 @@ module _ {D : Type 0} {g : Ghosts D} {T : Type 0} (conn_of : T → Held (FileSto
       → doubt (file_state conn).is_clean ≤ doubt (view left).is_clean
       → (IsClean (view left) → ReopensAs (file_state conn) left)
       → Does at task (vault_passing (λ t. HasCleanDisk (file_state (conn_of t))) held
-      (λ t V W. LeavesEither (file_state (conn_of t)) V W) v v') broken r unread unsent s
-      → WorksOn Holding left (λ p b. Does at task p b r unread unsent s)
-  works at Holding v v' left task r broken unread unsent s found fresh honest conn same no_less after
+      (λ t V W. LeavesEither (file_state (conn_of t)) V W) v v') broken r it unread unsent s
+      → WorksOn Holding left (λ p b. Does at task p b r it unread unsent s)
+  works at Holding v v' left task r it broken unread unsent s found fresh honest conn same no_less after
       does =
       let closed : IsClean (view left) → HasCleanDisk (file_state (conn_of v'.tables)) =
       λ clean. subst (λ h. HasCleanDisk (file_state h)) same (omega (arith, no_less, clean)) in
@@ -81,18 +83,25 @@ module _ {D : Type 0} {g : Ghosts D} {T : Type 0} (conn_of : T → Held (FileSto
               (after clean).either V V (left_by V V kept.1),
             ))
             (λ clean V W torn. (after clean).either V W (left_by V W torn))
-            s at task broken r unread unsent does;
+            s at task broken r it unread unsent does;
       }
 
 module _ {D : Type 0} {g : Ghosts D} (world : World) (path : List ℕ) (unread unsent : Type 0) (s : Streams)
   where
-    pub ended : (left : FileStore D g) (task : Task) (r : Result Outcome Stop)
-        → WorksOn (world.holds path) left (λ p b. Does (outside_in world) task p b r unread unsent s)
-        → EndsOnFile world path (Some left) task (ending_for r) unread unsent s
-    ended left task (Ok outcome.Done) works = works
-    ended left task (Ok (outcome.Refused n)) works = works
-    ended left task (Ok outcome.SomeRefused) works = works
-    ended left task (Err stop) works = works
+    -- only what is done is noted
+    pub ended : (left : FileStore D g) (task : Task) (r : Result Outcome Stop) (o : Option TaskNote)
+        → WorksOn (world.holds path) left (λ p b. Does (outside_in world) task p b r o unread unsent s)
+        → EndsOnFile world path (Some left) task (ending_for r o) unread unsent s
+    ended left task (Ok outcome.Done) None works = works
+    ended left task (Ok outcome.Done) (Some it) works = works
+    ended left task (Ok (outcome.Refused n)) None works = works
+    ended left task (Ok (outcome.Refused n)) (Some it) works =
+        let is = works.done.noted.fits.1 in absurd (cc (is))
+    ended left task (Ok outcome.SomeRefused) None works = works
+    ended left task (Ok outcome.SomeRefused) (Some it) works =
+        let is = works.done.noted.fits.1 in absurd (cc (is))
+    ended left task (Err stop) None works = works
+    ended left task (Err stop) (Some it) works = let is = works.done.noted.fits.1 in absurd (cc (is))
 
     pub refused_file : (left : Option (FileStore D g)) (task : Task) (why : FileFault)
         → (why ≡ file.Refused) ↔ (left ≡ None) → (why ≡ file.Refused → world.refuses path)

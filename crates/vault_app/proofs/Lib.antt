@@ -1,4 +1,4 @@
-mod Checked
+mod Errors
 mod Files
 mod Lines
 mod FollowedFiles

@@ -75,10 +75,11 @@ module _ {P D : Type 0} (g : Ghosts P D) (tells : Turns) (looks : List ℕ → L
   serve_ending : (j : ServeJob) (e : Ending) → EndsBefore blind (job.Serve j) e
       → EndsBefore whole (job.Serve j) e
   serve_ending j ending.Done h = h
-  serve_ending j ending.DoneWithLog h = h
+  serve_ending j (ending.Noted it) h = h
   serve_ending j ending.Version h = h
   serve_ending j (ending.Refused n) (inl h) = inl (refused_at RefusesMerchants j.merchants n h)
   serve_ending j (ending.Refused n) (inr h) = inr (refused_at RefusesRights j.rights n h)
+  serve_ending j (ending.Misnamed it) h = h
   serve_ending j ending.SomeRefused h = h
   serve_ending j ending.BadWords h = h
   serve_ending j (ending.NotOpened f) h = h

@@ -23,20 +23,23 @@ use Rattle.vault_jobs.specs.Streams.{Known, Streams}
 use Rattle.vault_jobs.specs.declared.task.Outcome.TheVariants as outcome
 use Rattle.vault_jobs.specs.declared.show.Shown.TheVariants as show
 use Rattle.vault_jobs.specs.declared.task.Task.{Task}
+use Rattle.vault_jobs.specs.declared.trial.Trial.{Trial as Asked}
 use Rattle.vault_jobs.specs.declared.clock.Giver.TheVariants.{Words, Clock}
 use Rattle.vault_jobs.specs.declared.task.Task.TheVariants as task
 use Rattle.vault_app.specs.Asked.{AsksFor, IsBatch, Unasked}
 use Rattle.vault_app.specs.Ending.{Says, status_of}
 use Rattle.vault_app.specs.Files.{EndsOnFile}
 use Rattle.vault_app.specs.Jobs.{Does, DoesPlan}
-use Rattle.vault_app.specs.Commands.Check.{TellsSizes, beside}
+use Rattle.vault_app.specs.Commands.Check.{TellsSizes}
 use Rattle.vault_app.specs.Commands.Migrate.{TellsMoved}
-use Rattle.vault_app.specs.Endings.{LineEnds}
+use Rattle.vault_app.specs.Commands.Trial.{TrialEnds}
+use Rattle.vault_app.specs.Endings.{NotedLineEnds}
 use Rattle.vault_app.specs.Plans.{IsPlanOf, IsTaskOf}
 use Rattle.vault_app.specs.World.{World, outside_in}
 use Rattle.vault_app.specs.declared.ending.Ending.{Ending}
-use Rattle.vault_app.specs.declared.ending.Ending.TheVariants.{Done, DoneWithLog, Version, Refused}
+use Rattle.vault_app.specs.declared.ending.Ending.TheVariants.{Done, Noted, Version, Refused, Misnamed}
 use Rattle.vault_app.specs.declared.ending.Ending.TheVariants.{SomeRefused, BadWords, NotOpened, Stopped}
+use Rattle.vault_app.specs.declared.note.Note.{Note}
 use Rattle.vault_app.specs.declared.plan.Plan.{Plan}
 use Rattle.vault_app.specs.declared.plan.Plan.TheVariants as plan
 
@@ -55,29 +58,42 @@ pub said_at : (why : List ℕ) (ending : Ending) (same_output same_errors : Type
 said_at why BadWords A B o e at said = said.0
 said_at why (NotOpened f) A B o e at said = said.0
 said_at why Done A B o e at said = said.0
-said_at why DoneWithLog A B o e at said = said.0
+said_at why (Noted it) A B o e at said = said.0
 said_at why SomeRefused A B o e at said = said.0
 said_at why (Stopped stop) A B o e at said = said.0
 said_at why Version A B o e (inl at) said = absurd (omega (arith, at))
 said_at why Version A B o e (inr at) said = absurd (omega (arith, at))
 said_at why (Refused n) A B o e (inl at) said = absurd (omega (arith, at))
 said_at why (Refused n) A B o e (inr at) said = absurd (omega (arith, at))
+said_at why (Misnamed it) A B o e (inl at) said = absurd (omega (arith, at))
+said_at why (Misnamed it) A B o e (inr at) said = absurd (omega (arith, at))
 
--- the end of a line that a job wrote, and of a check with it
+-- the end of a job that wrote a line, with what is noted beside it
 abbrev IsOfLine : Ending → Type 0
 IsOfLine Done = Unit {0}
-IsOfLine DoneWithLog = Unit {0}
+IsOfLine (Noted it) = Unit {0}
 IsOfLine (Stopped why) = Unit {0}
 IsOfLine ending = ⊥
 
--- a check ends so
-of_line : (log : Bool) (text : List ℕ) (old new : Known) (writer : Bool) (line ending : Ending)
-    → LineEnds text line old new writer → ending ≡ beside log line → IsOfLine ending
-of_line true text old new writer Done ending ends is = subst IsOfLine (sym is) tt
-of_line false text old new writer Done ending ends is = subst IsOfLine (sym is) tt
-of_line true text old new writer (Stopped why) ending ends is = subst IsOfLine (sym is) tt
-of_line false text old new writer (Stopped why) ending ends is = subst IsOfLine (sym is) tt
-of_line log text old new writer line ending ends is = absurd ends
+-- a check ends so, and a move
+of_line : (text : List ℕ) (noted : Bool) (of : Note) (ending : Ending) (old new : Known) (writer : Bool)
+    → NotedLineEnds text noted of ending old new writer → IsOfLine ending
+of_line text true of ending old new writer (Done, ends, is) = subst IsOfLine (sym is) tt
+of_line text false of ending old new writer (Done, ends, is) = subst IsOfLine (sym is) tt
+of_line text true of ending old new writer (Stopped why, ends, is) = subst IsOfLine (sym is) tt
+of_line text false of ending old new writer (Stopped why, ends, is) = subst IsOfLine (sym is) tt
+of_line text noted of ending old new writer (line, ends, is) = absurd ends
+
+-- without a plan only
+abbrev pub IsPlanless : Ending → Type 0
+IsPlanless BadWords = Unit {0}
+IsPlanless (Misnamed it) = Unit {0}
+IsPlanless ending = ⊥
+
+no_line : (ending : Ending) → IsPlanless ending → ¬ (IsOfLine ending)
+no_line BadWords is line = line
+no_line (Misnamed it) is line = line
+no_line ending is line = absurd is
 
 -- the task answers rows
 abbrev IsOfRows : Task → Type 0
@@ -118,7 +134,8 @@ batch_of world job t is rows = absurd is
 module _ (at : Outside) (unread unsent : Type 0) (s : Streams) where
   rows_of : (t : Task) (w : Passage) (broken : Bool)
       → Works at t w broken (Ok outcome.SomeRefused) unread unsent s → IsOfRows t
-  rows_of (task.Change c) w broken h = h
+  rows_of (task.Change c) w broken (inl h) = h
+  rows_of (task.Change c) w broken (inr (f, is, silent, h, some)) = absurd (cc is)
   rows_of (task.Give rows now) w broken h = h
   rows_of (task.Settle rows now) w broken (inl (changes, of, h)) = h
   rows_of (task.Settle rows now) w broken (inr (f, is, silent, h)) = absurd (cc is)
@@ -135,44 +152,53 @@ module _ (at : Outside) (unread unsent : Type 0) (s : Streams) where
   rows_of (task.Show it) w broken h = h
 
   unread_by : (t : Task) (w : Passage) (broken : Bool) (n : ℕ)
-      → Performs at t w broken (Ok (outcome.Refused n)) unread unsent s → unread
+      → Performs at t w broken (Ok (outcome.Refused n)) None unread unsent s → unread
   unread_by (task.Batch who now digits) w broken n d = absurd d.works
   unread_by (task.Pipe now digits) w broken n d = absurd d.works
   unread_by t w broken n d = d.begun
 
 module _ {D : Type 0} {g : Ghosts D} (world : World) (left : Option (FileStore D g))
     (unread unsent : Type 0) (s : Streams) where
-  -- a plan doesn't end with bad words
-  sizes_bad : (log : Bool) (told : Result Sizes FileFault)
-      → ¬ (TellsSizes log told BadWords unsent s.sent_old s.sent_new s.writer)
-  sizes_bad log (Ok sizes) (line, ends, is) = of_line log _ _ _ _ line BadWords ends is
-  sizes_bad log (Err why) h = let is = h.0 in absurd (cc (is))
+  -- a plan doesn't end with bad words, or with a word that is no name or no right
+  sizes_without : (e : Ending) → IsPlanless e → (log : Bool) (told : Result Sizes FileFault)
+      → ¬ (TellsSizes log told e unsent s.sent_old s.sent_new s.writer)
+  sizes_without e is log (Ok sizes) h = no_line e is (of_line _ log _ e _ _ _ h)
+  sizes_without e is log (Err why) h = subst IsPlanless h.0 is
 
-  moved_bad : (told : Result ℤ FileFault) → ¬ (TellsMoved told BadWords unsent s.sent_old s.sent_new s.writer)
-  moved_bad (Ok version) h = h
-  moved_bad (Err why) h = let is = h.0 in absurd (cc (is))
+  moved_without : (e : Ending) → IsPlanless e → (was_empty : Bool) (told : Result ℤ FileFault)
+      → ¬ (TellsMoved was_empty told e unsent s.sent_old s.sent_new s.writer)
+  moved_without e is was_empty (Ok version) h = no_line e is (of_line _ was_empty _ e _ _ _ h)
+  moved_without e is was_empty (Err why) h = subst IsPlanless h.0 is
 
-  file_bad : (path : List ℕ) (left : Option (FileStore D g)) (t : Task)
-      → ¬ (EndsOnFile world path left t BadWords unread unsent s)
-  file_bad path (Some it) t h = h
-  file_bad path None t h = let is = h.1 in absurd (cc (is))
+  file_without : (e : Ending) → IsPlanless e → (path : List ℕ) (left : Option (FileStore D g)) (t : Task)
+      → ¬ (EndsOnFile world path left t e unread unsent s)
+  file_without BadWords is path (Some it) t h = h
+  file_without (Misnamed placeholder) is path (Some it) t h = h
+  file_without e is path (Some it) t h = absurd is
+  file_without e is path None t h = subst IsPlanless h.1 is
 
-  plan_bad : (p : Plan) → ¬ (DoesPlan world left p BadWords unread unsent s)
-  plan_bad (plan.Trial t) h = h.1
-  plan_bad (plan.Check path) h = sizes_bad h.1.2.0 h.1.0 h.1.2.2
-  plan_bad (plan.Migrate path) h = moved_bad h.1.0 h.1.2
-  plan_bad (plan.Do path t) h = file_bad path.now left t h
+  trial_without : (e : Ending) → IsPlanless e → (t : Asked) → ¬ (TrialEnds world.tells t e s)
+  trial_without BadWords is t h = h
+  trial_without (Misnamed placeholder) is t h = h
+  trial_without e is t h = absurd is
+
+  pub plan_without : (e : Ending) → IsPlanless e → (p : Plan)
+      → ¬ (DoesPlan world left p e unread unsent s)
+  plan_without e is (plan.Trial t) h = trial_without e is t h.1
+  plan_without e is (plan.Check path) h = sizes_without e is h.1.2.0 h.1.0 h.1.2.2
+  plan_without e is (plan.Migrate path) h = moved_without e is h.1.2.0 h.1.0 h.1.2.2
+  plan_without e is (plan.Do path t) h = file_without e is path.now left t h
 
   -- where its file isn't opened it reads and writes nothing
   sizes_closed : (log : Bool) (told : Result Sizes FileFault) (f : FileFault)
       → TellsSizes log told (NotOpened f) unsent s.sent_old s.sent_new s.writer → unsent
-  sizes_closed log (Ok sizes) f (line, ends, is) = absurd (of_line log _ _ _ _ line (NotOpened f) ends is)
+  sizes_closed log (Ok sizes) f h = absurd (of_line _ log _ (NotOpened f) _ _ _ h)
   sizes_closed log (Err why) f h = h.1
 
-  moved_closed : (told : Result ℤ FileFault) (f : FileFault)
-      → TellsMoved told (NotOpened f) unsent s.sent_old s.sent_new s.writer → unsent
-  moved_closed (Ok version) f h = absurd h
-  moved_closed (Err why) f h = h.1
+  moved_closed : (was_empty : Bool) (told : Result ℤ FileFault) (f : FileFault)
+      → TellsMoved was_empty told (NotOpened f) unsent s.sent_old s.sent_new s.writer → unsent
+  moved_closed was_empty (Ok version) f h = absurd (of_line _ was_empty _ (NotOpened f) _ _ _ h)
+  moved_closed was_empty (Err why) f h = h.1
 
   file_closed : (path : List ℕ) (left : Option (FileStore D g)) (t : Task) (f : FileFault)
       → EndsOnFile world path left t (NotOpened f) unread unsent s → unread × unsent
@@ -183,7 +209,7 @@ module _ {D : Type 0} {g : Ghosts D} (world : World) (left : Option (FileStore D
       → unread × unsent
   plan_closed (plan.Trial t) f h = absurd h.1
   plan_closed (plan.Check path) f h = (h.0, sizes_closed h.1.2.0 h.1.0 f h.1.2.2)
-  plan_closed (plan.Migrate path) f h = (h.0, moved_closed h.1.0 f h.1.2)
+  plan_closed (plan.Migrate path) f h = (h.0, moved_closed h.1.2.0 h.1.0 f h.1.2.2)
   plan_closed (plan.Do path t) f h = file_closed path.now left t f h
 
   -- where the vault refuses it reads nothing
@@ -201,13 +227,13 @@ module _ {D : Type 0} {g : Ghosts D} (world : World) (left : Option (FileStore D
   -- only a batch is refused in part
   sizes_part : (log : Bool) (told : Result Sizes FileFault)
       → ¬ (TellsSizes log told SomeRefused unsent s.sent_old s.sent_new s.writer)
-  sizes_part log (Ok sizes) (line, ends, is) = of_line log _ _ _ _ line SomeRefused ends is
+  sizes_part log (Ok sizes) h = of_line _ log _ SomeRefused _ _ _ h
   sizes_part log (Err why) h = let is = h.0 in absurd (cc (is))
 
-  moved_part : (told : Result ℤ FileFault) → ¬ (TellsMoved told SomeRefused unsent s.sent_old s.sent_new
-      s.writer)
-  moved_part (Ok version) h = h
-  moved_part (Err why) h = let is = h.0 in absurd (cc (is))
+  moved_part : (was_empty : Bool) (told : Result ℤ FileFault)
+      → ¬ (TellsMoved was_empty told SomeRefused unsent s.sent_old s.sent_new s.writer)
+  moved_part was_empty (Ok version) h = of_line _ was_empty _ SomeRefused _ _ _ h
+  moved_part was_empty (Err why) h = let is = h.0 in absurd (cc (is))
 
   file_part : (path : List ℕ) (left : Option (FileStore D g)) (t : Task)
       → EndsOnFile world path left t SomeRefused unread unsent s → IsOfRows t
@@ -224,7 +250,7 @@ module _ {D : Type 0} {g : Ghosts D} (world : World) (left : Option (FileStore D
   plan_part : (p : Plan) → DoesPlan world left p SomeRefused unread unsent s → IsPart p
   plan_part (plan.Trial t) h = absurd h.1
   plan_part (plan.Check path) h = absurd (sizes_part h.1.2.0 h.1.0 h.1.2.2)
-  plan_part (plan.Migrate path) h = absurd (moved_part h.1.0 h.1.2)
+  plan_part (plan.Migrate path) h = absurd (moved_part h.1.2.0 h.1.0 h.1.2.2)
   plan_part (plan.Do path t) h = file_part path.now left t h
 
   batch_in : (job : Job) (p : Plan) → IsPlanOf world job p → IsPart p → IsBatch job
@@ -236,7 +262,7 @@ module _ {D : Type 0} {g : Ghosts D} (world : World) (left : Option (FileStore D
   -- with a status of 2 or 3 nothing was read, and nothing written by a job
   pub calm_at : (words : List Text) (ending : Ending) → (status_of ending ≡ 2) ⊎ (status_of ending ≡ 3)
       → Does world left words ending unread unsent s → unread × unsent
-  calm_at words BadWords at (inl (job, asked, inl (p, is, proper, h))) = absurd (plan_bad p h)
+  calm_at words BadWords at (inl (job, asked, inl (p, is, proper, h))) = absurd (plan_without BadWords tt p h)
   calm_at words BadWords at (inl (job, asked, inr (never, none, calm, silent))) = absurd never
   calm_at words BadWords at (inr (none, inl (inl (help, is), calm))) = absurd (cc (is))
   calm_at words BadWords at (inr (none, inl (inr (version, is, silent), calm))) = absurd (cc (is))
@@ -250,12 +276,14 @@ module _ {D : Type 0} {g : Ghosts D} (world : World) (left : Option (FileStore D
   calm_at words (NotOpened f) at (inr (none, inr (inr (is, calm, silent)))) = absurd (cc (is))
   calm_at words Done (inl at) h = absurd (omega (arith, at))
   calm_at words Done (inr at) h = absurd (omega (arith, at))
-  calm_at words DoneWithLog (inl at) h = absurd (omega (arith, at))
-  calm_at words DoneWithLog (inr at) h = absurd (omega (arith, at))
+  calm_at words (Noted it) (inl at) h = absurd (omega (arith, at))
+  calm_at words (Noted it) (inr at) h = absurd (omega (arith, at))
   calm_at words Version (inl at) h = absurd (omega (arith, at))
   calm_at words Version (inr at) h = absurd (omega (arith, at))
   calm_at words (Refused n) (inl at) h = absurd (omega (arith, at))
   calm_at words (Refused n) (inr at) h = absurd (omega (arith, at))
+  calm_at words (Misnamed it) (inl at) h = absurd (omega (arith, at))
+  calm_at words (Misnamed it) (inr at) h = absurd (omega (arith, at))
   calm_at words SomeRefused (inl at) h = absurd (omega (arith, at))
   calm_at words SomeRefused (inr at) h = absurd (omega (arith, at))
   calm_at words (Stopped why) (inl at) h = absurd (omega (arith, at))
@@ -270,6 +298,13 @@ module _ {D : Type 0} {g : Ghosts D} (world : World) (left : Option (FileStore D
   refused_at words (Refused n) at (inr (none, inl (inr (version, is, silent), calm))) = inl calm
   refused_at words (Refused n) at (inr (none, inr (inl (unknown, is, calm, silent)))) = inl calm
   refused_at words (Refused n) at (inr (none, inr (inr (is, calm, silent)))) = inl calm
+  refused_at words (Misnamed it) at (inl (job, asked, inl (p, is, proper, h))) =
+      absurd (plan_without (Misnamed it) tt p h)
+  refused_at words (Misnamed it) at (inl (job, asked, inr (before, none, calm, silent))) = inl calm
+  refused_at words (Misnamed it) at (inr (none, inl (inl (help, is), calm))) = inl calm
+  refused_at words (Misnamed it) at (inr (none, inl (inr (version, is, silent), calm))) = inl calm
+  refused_at words (Misnamed it) at (inr (none, inr (inl (unknown, is, calm, silent)))) = inl calm
+  refused_at words (Misnamed it) at (inr (none, inr (inr (is, calm, silent)))) = inl calm
   refused_at words SomeRefused at (inl (job, asked, inl (p, is, proper, h))) =
       inr (job, asked, batch_in job p is (plan_part p h))
   refused_at words SomeRefused at (inl (job, asked, inr (never, none, calm, silent))) = absurd never
@@ -278,7 +313,7 @@ module _ {D : Type 0} {g : Ghosts D} (world : World) (left : Option (FileStore D
   refused_at words SomeRefused at (inr (none, inr (inl (unknown, is, calm, silent)))) = inl calm
   refused_at words SomeRefused at (inr (none, inr (inr (is, calm, silent)))) = inl calm
   refused_at words Done at h = absurd (omega (arith, at))
-  refused_at words DoneWithLog at h = absurd (omega (arith, at))
+  refused_at words (Noted it) at h = absurd (omega (arith, at))
   refused_at words Version at h = absurd (omega (arith, at))
   refused_at words BadWords at h = absurd (omega (arith, at))
   refused_at words (NotOpened f) at h = absurd (omega (arith, at))

@@ -6,20 +6,21 @@ use Rattle.clap.specs.declared.error.kind.ErrorKind.TheVariants.{DisplayHelp, Di
 use Rattle.vault_schema.specs.Versions.{newest, number_of}
 use Rattle.vault_core.specs.Name.{IsName}
 use Rattle.vault_core.specs.Words.{right_word}
-use Rattle.vault_core.specs.declared.right.Right.{Right}
+use Rattle.vault_core.specs.declared.right.Right.{Right as RightOf}
 use Rattle.vault_store.specs.declared.vault.Fault.TheVariants as vault
 use Rattle.vault_verdict.specs.declared.sizes.Sizes.{Sizes}
 use Rattle.vault_words.specs.Commands.{program_app}
 use Rattle.vault_words.specs.Jobs.{IsAsked}
 use Rattle.vault_words.specs.declared.commands.batch.BatchJob.{BatchJob}
-use Rattle.vault_words.specs.declared.commands.check.CheckJob.{CheckJob}
 use Rattle.vault_words.specs.declared.commands.rights.RightJob.{RightJob}
 use Rattle.vault_words.specs.declared.jobs.Job.{Job}
-use Rattle.vault_words.specs.declared.jobs.Job.TheVariants.{Batch, Check}
+use Rattle.vault_words.specs.declared.jobs.Job.TheVariants.{Batch}
 use Rattle.vault_jobs.specs.declared.stop.Stop.TheVariants.{Vault}
 use Rattle.vault_app.specs.declared.ending.Ending.{Ending}
 use Rattle.vault_app.specs.declared.ending.Ending.TheVariants.{Done, Version}
 use Rattle.vault_app.specs.declared.ending.Ending.TheVariants.{BadWords, Stopped}
+use Rattle.vault_app.specs.declared.placeholder.Placeholder.{Placeholder}
+use Rattle.vault_app.specs.declared.placeholder.Placeholder.TheVariants.{Caller, Merchant, Right}
 
 -- the line of a file that is sound
 abbrev pub sound_line : Sizes → List ℕ
@@ -36,19 +37,21 @@ AreNames j = IsName j.caller.now × IsName j.merchant.now
 
 -- and its word is a right's
 abbrev pub IsRight : RightJob → Type 0
-IsRight j = (right : Right) × (j.right.now ≡ right_word right)
+IsRight j = (right : RightOf) × (j.right.now ≡ right_word right)
 
--- a name that is none is refused by 4, and then a word that is no right by 71
-abbrev pub IsMisnamed : RightJob → ℕ → Type 0
-IsMisnamed j n = (n ≡ 4) × ¬ (AreNames j) ⊎ (n ≡ 71) × (AreNames j × ¬ (IsRight j))
+-- the first of a caller and a merchant that is no name
+abbrev pub MisnamesAsker : List ℕ → List ℕ → Placeholder → Type 0
+MisnamesAsker caller m placeholder = (placeholder ≡ Caller) × ¬ (IsName caller)
+    ⊎ (placeholder ≡ Merchant) × IsName caller × ¬ (IsName m)
+
+-- the first of a right's words that is no name; and then the one that is no right
+abbrev pub MisnamesRight : RightJob → Placeholder → Type 0
+MisnamesRight j placeholder = MisnamesAsker j.caller.now j.merchant.now placeholder
+    ⊎ (placeholder ≡ Right) × (AreNames j × ¬ (IsRight j))
 
 -- it is a batch
 abbrev pub IsBatch : Job → Type 0
 IsBatch job = (j : BatchJob) × (job ≡ Batch j)
-
--- it is a check
-abbrev pub IsCheck : Job → Type 0
-IsCheck job = (j : CheckJob) × (job ≡ Check j)
 
 -- the words ask for a job of which P holds
 abbrev pub AsksFor : List Text → (Job → Type 0) → Type 0

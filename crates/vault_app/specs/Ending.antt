@@ -3,23 +3,36 @@ use Rattle.std.specs.Prelude.{ℕ, ◌++◌, List, codes, decimal}
 use Rattle.std.specs.Fmt.{signed_decimal}
 use Rattle.vault_schema.specs.Versions.{newest, number_of as version_number}
 use Rattle.vault_refusal.specs.Refusal.{number_of}
+use Rattle.vault_refusal.specs.declared.refusal.Refusal.TheVariants.{BadName, UnknownRight}
 use Rattle.vault_file.specs.Faults as file
 use Rattle.vault_file.specs.declared.fault.NotOpened.{NotOpened as FileFault}
 use Rattle.vault_jobs.specs.Causes.{refusal_of}
+use Rattle.vault_jobs.specs.declared.note.Note.TheVariants.{NoMerchant, ClockAhead, NothingWithdrawn}
 use Rattle.vault_app.specs.declared.ending.Ending.{Ending}
-use Rattle.vault_app.specs.declared.ending.Ending.TheVariants.{Done, DoneWithLog, Version, Refused}
+use Rattle.vault_app.specs.declared.ending.Ending.TheVariants.{Done, Noted, Version, Refused, Misnamed}
 use Rattle.vault_app.specs.declared.ending.Ending.TheVariants.{SomeRefused, BadWords, NotOpened, Stopped}
+use Rattle.vault_app.specs.declared.note.Note.{Note}
+use Rattle.vault_app.specs.declared.note.Note.TheVariants.{Log, Made, Task}
+use Rattle.vault_app.specs.declared.placeholder.Placeholder.{Placeholder}
+use Rattle.vault_app.specs.declared.placeholder.Placeholder.TheVariants.{Caller, Merchant, Name, Right}
 
 -- the exit status
 abbrev pub status_of : Ending → ℕ
 status_of Done = 0
-status_of DoneWithLog = 0
+status_of (Noted note) = 0
 status_of Version = 0
 status_of (Refused n) = 1
+status_of (Misnamed placeholder) = 1
 status_of SomeRefused = 1
 status_of BadWords = 2
 status_of (NotOpened f) = 3
 status_of (Stopped s) = 4
+
+-- it is done, whatever is noted of it
+abbrev pub IsDone : Ending → Type 0
+IsDone Done = Unit {0}
+IsDone (Noted note) = Unit {0}
+IsDone ending = ⊥
 
 -- the line of the program's version and of the newest schema, on the output
 abbrev pub version_line : List ℕ
@@ -32,6 +45,27 @@ refusal_line n = codes "refused " ++ decimal n ++ codes "\n"
 -- the line on the errors of a check whose file has a log
 abbrev pub log_line : List ℕ
 log_line = codes "vault: the file has a log, FILE-wal, and a copy needs both\n"
+
+-- the line on the errors of what is noted of a job that is done
+abbrev pub note_line : Note → List ℕ
+note_line Log = log_line
+note_line Made = codes "vault: there was no vault in FILE, and an empty one is made\n"
+note_line (Task NoMerchant) = codes "vault: there is no such merchant\n"
+note_line (Task ClockAhead) =
+    codes "vault: the clock is more than 31 days ahead of the merchant's last moment\n"
+note_line (Task NothingWithdrawn) = codes "vault: there was nothing to withdraw\n"
+
+-- by which number the word at a placeholder is refused that is none: 71 a right, and 4 a name
+abbrev pub number_at : Placeholder → ℕ
+number_at Right = number_of UnknownRight
+number_at placeholder = number_of BadName
+
+-- the line on the errors that says which word is none; the word itself isn't said
+abbrev pub placeholder_line : Placeholder → List ℕ
+placeholder_line Caller = codes "vault: CALLER is no name\n"
+placeholder_line Merchant = codes "vault: MERCHANT is no name\n"
+placeholder_line Name = codes "vault: NAME is no name\n"
+placeholder_line Right = codes "vault: RIGHT is no right\n"
 
 -- the lines on the errors: the words ask for no job
 abbrev pub bad_words_line : List ℕ
@@ -49,12 +83,15 @@ stop_line n = codes "vault: stopped " ++ decimal n ++ codes "\n"
 
 -- A version and a refusal are said on the output, and what else stands in the way of a job on the errors; the
 -- other stream stays as it was, and at the end of a job, and of a batch with refused rows, both do. Beside a
--- check's line it is said that the file has a log. Behind the line of bad words it is said why they are.
+-- job's line it is said what is to be noted, and beside a refusal which word is no name or no right. Behind
+-- the line of bad words it is said why they are.
 abbrev pub Says : List ℕ → Ending → Type 0 → Type 0 → (List ℕ → Type 0) → (List ℕ → Type 0) → Type 0
 Says why Done same_output same_errors output errors = same_output × same_errors
-Says why DoneWithLog same_output same_errors output errors = same_output × errors log_line
+Says why (Noted note) same_output same_errors output errors = same_output × errors (note_line note)
 Says why Version same_output same_errors output errors = output version_line × same_errors
 Says why (Refused n) same_output same_errors output errors = output (refusal_line n) × same_errors
+Says why (Misnamed placeholder) same_output same_errors output errors =
+    output (refusal_line (number_at placeholder)) × errors (placeholder_line placeholder)
 Says why SomeRefused same_output same_errors output errors = same_output × same_errors
 Says why BadWords same_output same_errors output errors = same_output × errors (bad_words_line ++ why)
 Says why (NotOpened f) same_output same_errors output errors = same_output × errors (not_opened_line f)

@@ -7,15 +7,18 @@ use Rattle.vault_jobs.specs.Streams.{Known}
 use Rattle.vault_jobs.specs.declared.stop.Stop.{Stop}
 use Rattle.vault_jobs.specs.declared.stop.Stop.TheVariants as stop
 use Rattle.vault_app.specs.declared.ending.Ending.{Ending}
-use Rattle.vault_app.specs.declared.ending.Ending.TheVariants.{Done, DoneWithLog, Version, Refused}
+use Rattle.vault_app.specs.declared.ending.Ending.TheVariants.{Done, Noted, Version, Refused, Misnamed}
 use Rattle.vault_app.specs.declared.ending.Ending.TheVariants.{SomeRefused, BadWords, NotOpened, Stopped}
+use Rattle.vault_app.specs.declared.note.Note.{Note}
+use Rattle.vault_app.specs.declared.placeholder.Placeholder.{Placeholder}
 
 -- what holds with each ending
 pub record Endings : Type 1 where
   pub done : Type 0
-  pub done_with_log : Type 0
+  pub noted : Note → Type 0
   pub version : Type 0
   pub refused : ℕ → Type 0
+  pub misnamed : Placeholder → Type 0
   pub some_refused : Type 0
   pub bad_words : Type 0
   pub not_opened : FileFault → Type 0
@@ -25,9 +28,10 @@ pub record Endings : Type 1 where
 abbrev pub no_ending : Endings
 no_ending = record {
   done = ⊥;
-  done_with_log = ⊥;
+  noted = λ note. ⊥;
   version = ⊥;
   refused = λ n. ⊥;
+  misnamed = λ placeholder. ⊥;
   some_refused = ⊥;
   bad_words = ⊥;
   not_opened = λ f. ⊥;
@@ -37,9 +41,10 @@ no_ending = record {
 -- the ending comes, and what holds with it
 abbrev pub EndsSo : Endings → Ending → Type 0
 EndsSo it Done = it.done
-EndsSo it DoneWithLog = it.done_with_log
+EndsSo it (Noted note) = it.noted note
 EndsSo it Version = it.version
 EndsSo it (Refused n) = it.refused n
+EndsSo it (Misnamed placeholder) = it.misnamed placeholder
 EndsSo it SomeRefused = it.some_refused
 EndsSo it BadWords = it.bad_words
 EndsSo it (NotOpened f) = it.not_opened f
@@ -51,3 +56,13 @@ LineEnds line ending old new writer = EndsSo (record no_ending {
   done = (writer ≡ false) × Appends old new line;
   stopped = λ why. (why ≡ stop.Service service.Write) × (writer ≡ true);
 }) ending
+
+-- the end of a job whose line ended so: where it is done and there is this to note, it tells of that
+abbrev pub beside : Bool → Note → Ending → Ending
+beside true note Done = Noted note
+beside noted note ending = ending
+
+-- so a job ends that is done and wrote this line, with this note, or none; or the writer failed
+abbrev pub NotedLineEnds : List ℕ → Bool → Note → Ending → Known → Known → Bool → Type 0
+NotedLineEnds text noted note ending old new writer =
+    (line : Ending) × LineEnds text line old new writer × (ending ≡ beside noted note line)

@@ -21,6 +21,7 @@ use Rattle.vault_engine.specs.Passing.{Passage}
 use Rattle.vault_jobs.specs.Doing.{Does}
 use Rattle.vault_jobs.specs.Outside.{Outside}
 use Rattle.vault_jobs.specs.Streams.{Streams}
+use Rattle.vault_jobs.specs.declared.note.Note.{Note as TaskNote}
 use Rattle.vault_jobs.specs.declared.stop.Stop.{Stop}
 use Rattle.vault_jobs.specs.declared.task.Outcome.{Outcome}
 use Rattle.vault_jobs.specs.declared.task.Outcome.TheVariants as outcome
@@ -28,17 +29,20 @@ use Rattle.vault_jobs.specs.declared.show.Shown.{Shown}
 use Rattle.vault_jobs.specs.declared.task.Task.{Task}
 use Rattle.vault_jobs.specs.declared.task.Task.TheVariants.{Show}
 use Rattle.vault_app.specs.Endings.{EndsSo, no_ending}
+use Rattle.vault_app.specs.Notes.{OfTask}
 use Rattle.vault_app.specs.World.{World, outside_in}
 use Rattle.vault_app.specs.declared.ending.Ending.{Ending}
-use Rattle.vault_app.specs.declared.ending.Ending.TheVariants.{Done, Refused, SomeRefused, NotOpened}
+use Rattle.vault_app.specs.declared.ending.Ending.TheVariants.{Done, Noted, Refused, SomeRefused, NotOpened}
 use Rattle.vault_app.specs.declared.ending.Ending.TheVariants.{Stopped}
+use Rattle.vault_app.specs.declared.note.Note.TheVariants as note
 
--- how a job ends whose task came to this
-abbrev pub ending_for : Result Outcome Stop → Ending
-ending_for (Ok outcome.Done) = Done
-ending_for (Ok (outcome.Refused n)) = Refused n
-ending_for (Ok outcome.SomeRefused) = SomeRefused
-ending_for (Err stop) = Stopped stop
+-- how a job ends whose task came to this, with what is noted of it
+abbrev pub ending_for : Result Outcome Stop → Option TaskNote → Ending
+ending_for (Ok outcome.Done) None = Done
+ending_for (Ok outcome.Done) (Some it) = Noted (note.Task it)
+ending_for (Ok (outcome.Refused n)) it = Refused n
+ending_for (Ok outcome.SomeRefused) it = SomeRefused
+ending_for (Err stop) it = Stopped stop
 
 -- the task only says what a vault holds
 abbrev pub IsShow : Task → Type 0
@@ -86,18 +90,19 @@ module _ {D : Type 0} {g : Ghosts D} where
     pub stays : Each Holding (λ image. Stays image left)
     pub same : Each Holding (λ image. ¬ MayFindNone image → StaysWhole image left)
 
-  -- what was done with the vault in files with such bytes, by how a task on it ended
+  -- what was done with the vault in files with such bytes, by how a task on it ended, and what is noted of it
   abbrev pub DoesOnFile : Outside → (Image → Type 0) → FileStore D g → Task → Ending → Type 0 → Type 0
       → Streams → Type 0
   DoesOnFile at Holding left task ending unread unsent s =
-      let works : Result Outcome Stop → Type 0 =
-      λ result. WorksOn Holding left (λ p broken. Does at task p broken result unread unsent s) in
+      let works : Result Outcome Stop → Option TaskNote → Type 0 =
+      λ result it. WorksOn Holding left (λ p broken. Does at task p broken result it unread unsent s) in
       EndsSo (record no_ending {
-        done = works (Ok outcome.Done);
-        refused = λ n. works (Ok (outcome.Refused n));
-        some_refused = works (Ok outcome.SomeRefused);
+        done = works (Ok outcome.Done) None;
+        noted = λ it. OfTask it (λ of. works (Ok outcome.Done) (Some of));
+        refused = λ n. works (Ok (outcome.Refused n)) None;
+        some_refused = works (Ok outcome.SomeRefused) None;
         not_opened = λ why. RefusesFile Holding left why × unread × unsent;
-        stopped = λ stop. works (Err stop);
+        stopped = λ stop. works (Err stop) None;
       }) ending
 
   -- The same at a path, where files are left only if they were opened, or refused with a connection.

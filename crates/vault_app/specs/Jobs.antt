@@ -1,5 +1,6 @@
 -- What a run does with its file.
 use Rattle.std.specs.Prelude.{◌≡◌, ◌≢◌, ◌⊎◌, ℕ, ℤ, List, Option, Some, None, Result, Ok, Err, Bool, IfOk}
+use Rattle.std.specs.Prelude.{true}
 use Rattle.clap.specs.Words.{Text}
 use Rattle.sqlite.specs.View.{IsClean}
 use Rattle.sqlite_disk.specs.declared.Disk.{Ghosts}
@@ -68,7 +69,8 @@ module _ {D : Type 0} {g : Ghosts D} where
       × IsChecked world path.now left told × ((log : Bool) × IfOk told (λ sizes. world.logs path.now log)
       × TellsSizes log told ending unsent s.sent_old s.sent_new s.writer))
   DoesPlan world left (plan.Migrate path) ending unread unsent s = unread × ((told : Result ℤ FileFault)
-      × IsMoved world path.now left told × TellsMoved told ending unsent s.sent_old s.sent_new s.writer)
+      × IsMoved world path.now left told × ((was_empty : Bool) × (was_empty ≡ true → world.lacks path.now)
+      × TellsMoved was_empty told ending unsent s.sent_old s.sent_new s.writer))
   DoesPlan world left (plan.Do path task) ending unread unsent s =
       EndsOnFile world path.now left task ending unread unsent s
 

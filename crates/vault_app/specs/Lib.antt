@@ -6,6 +6,7 @@ pub mod Files
 pub mod Followed
 pub mod Jobs
 pub mod Merchants
+pub mod Notes
 pub mod Plans
 pub mod Rights
 pub mod Saying

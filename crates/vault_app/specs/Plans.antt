@@ -29,6 +29,7 @@ use Rattle.vault_app.specs.Saying.{IsPlanFor, IsTaskFor, Saying}
 use Rattle.vault_app.specs.Values.{AreValues}
 use Rattle.vault_app.specs.World.{World}
 use Rattle.vault_app.specs.declared.ending.Ending.{Ending}
+use Rattle.vault_app.specs.declared.placeholder.Placeholder.{Placeholder}
 use Rattle.vault_app.specs.declared.plan.Plan.{Plan}
 use Rattle.vault_app.specs.declared.plan.Plan.TheVariants as plan
 
@@ -47,6 +48,10 @@ saying (Sweep j) = sweep_says j
 saying (Listing j) = list_says j
 saying (Check j) = check_says j
 saying (Migrate j) = migrate_says j
+
+-- the word of a job at a placeholder is the first of its words that is no name, or no right
+abbrev pub IsMisnamed : Placeholder → Job → Type 0
+IsMisnamed placeholder job = (saying job).misnamed placeholder
 
 -- the lives of a job are lives
 abbrev pub HasLives : Job → Type 0
@@ -68,10 +73,11 @@ IsProperPlan (plan.Check path) = Unit {0}
 IsProperPlan (plan.Migrate path) = Unit {0}
 IsProperPlan (plan.Do path t) = AreValues t
 
--- How a job ends without a plan in this world: it is refused; its moment is the clock's, and there is none;
--- or its list isn't read.
+-- How a job ends without a plan in this world: one of its words is no name, or no right; its list is refused;
+-- its moment is the clock's, and there is none; or its list isn't read.
 abbrev pub EndsBefore : World → Job → Ending → Type 0
 EndsBefore world job ending = EndsSo (record no_ending {
+  misnamed = λ placeholder. IsMisnamed placeholder job;
   refused = (saying job).refused world;
   stopped = λ s. (s ≡ stop.Service service.Source) × (saying job).needs_moment
       ⊎ ((why : ErrorKind) × (s ≡ stop.Rights why)) × (saying job).has_list;

@@ -4,6 +4,7 @@ use Rattle.std.specs.Borrow.{Bor}
 use Rattle.vault_jobs.specs.declared.task.Task.{Task}
 use Rattle.vault_jobs.specs.declared.trial.Trial.{Trial as Asked}
 use Rattle.vault_app.specs.World.{World}
+use Rattle.vault_app.specs.declared.placeholder.Placeholder.{Placeholder}
 use Rattle.vault_app.specs.declared.plan.Plan.{Plan}
 use Rattle.vault_app.specs.declared.plan.Plan.TheVariants as plan
 
@@ -39,11 +40,12 @@ path_of (OfCheck path) = Some path.now
 path_of (OfMove path) = Some path.now
 path_of (OfTask path Is) = Some path.now
 
--- What is said of a job: that its lives are lives; by which number it may be refused in a world before there
--- is a plan, for a name, a right or the text of its list; that it may be stopped for want of a moment; that
--- its rights stand in a list; and what it is for.
+-- What is said of a job: that its lives are lives; which of its words is the first that is no name, or no
+-- right; by which number it may be refused in a world before there is a plan, for the text of its list; that
+-- it may be stopped for want of a moment; that its rights stand in a list; and what it is for.
 pub record Saying : Type 1 where
   pub lives : Type 0
+  pub misnamed : Placeholder → Type 0
   pub refused : World → ℕ → Type 0
   pub needs_moment : Type 0
   pub has_list : Type 0
@@ -53,6 +55,7 @@ pub record Saying : Type 1 where
 abbrev pub quiet : Purpose → Saying
 quiet purpose = record {
   lives = Unit {0};
+  misnamed = λ placeholder. ⊥;
   refused = λ world n. ⊥;
   needs_moment = ⊥;
   has_list = ⊥;

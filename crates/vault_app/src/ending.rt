@@ -1,4 +1,6 @@
 //! How a job ends.
+use crate::note::Note;
+use crate::placeholder::Placeholder;
 use vault_file::fault::NotOpened;
 use vault_jobs::stop::Stop;
 
@@ -7,12 +9,14 @@ use vault_jobs::stop::Stop;
 pub enum Ending {
     /// Done, or help was asked.
     Done,
-    /// Done, and the file that was checked has a log.
-    DoneWithLog,
+    /// Done, and this is to be said of it.
+    Noted(Note),
     /// The version was asked.
     Version,
-    /// The words' names or the vault refused, by this number.
+    /// A list of the words or the vault refused, by this number.
     Refused(u8),
+    /// The word at this placeholder is no name, or no right.
+    Misnamed(Placeholder),
     /// Some rows of a batch are refused, as their lines say.
     SomeRefused,
     /// The words ask for no job.

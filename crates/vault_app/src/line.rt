@@ -2,9 +2,10 @@
 ghost use Rattle.std.specs.Prelude.{◌≡◌};
 ghost use Rattle.std.specs.List.{flat_map};
 ghost use Rattle.vault_wire.specs.Watching.{inner_of, is_stopped};
-ghost use Rattle.vault_app.specs.Endings.{LineEnds};
+ghost use Rattle.vault_app.specs.Endings.{LineEnds, beside};
 
 use crate::ending::Ending;
+use crate::note::Note;
 use std::io::Write;
 use vault_jobs::answer::answer;
 use vault_jobs::stop::Stop;
@@ -18,5 +19,15 @@ pub(crate) fn end_with<W: Write>(output: &mut Watched<W>, parts: &[&str]) -> End
     match answer(output, parts) {
         Ok(()) => Ending::Done,
         Err(fault) => Ending::Stopped(Stop::Service(fault)),
+    }
+}
+
+/// The end of a job whose line ended so: where it is done and there is something to note, it tells of that.
+pub(crate) fn end_beside(line: Ending, noted: bool, note: Note) -> Ending
+    ensures { result ≡ beside noted note line }
+{
+    match line {
+        Ending::Done if noted => Ending::Noted(note),
+        ended => ended,
     }
 }

@@ -8,12 +8,14 @@ ghost use Rattle.vault_app.specs.Files.{EndsOnFile, IsShow, ending_for};
 ghost use Rattle.vault_app.specs.World.{World, world_at};
 
 use crate::ending::Ending;
+use crate::note::Note;
 use sqlite::FileStore;
 use std::io::{Read, Write};
 use vault_file::fault::NotOpened;
 use vault_file::open::open_vault;
 use vault_file::paths::Paths;
 use vault_file::reopen::close;
+use vault_jobs::note::Note as TaskNote;
 use vault_jobs::stop::Stop;
 use vault_jobs::task::{Outcome, Task, do_task};
 use vault_listen::network::Network;
@@ -23,12 +25,15 @@ use vault_recover::options::Cache;
 use vault_verdict::fault::OpenFault;
 use vault_wire::watched::Watched;
 
-/// How a job ends whose task came to this.
-fn ending_of(outcome: Result<Outcome, Stop>) -> Ending
-    ensures { result ≡ ending_for outcome }
+/// How a job ends whose task came to this, with what is noted of it.
+fn ending_of(outcome: Result<Outcome, Stop>, note: Option<TaskNote>) -> Ending
+    ensures { result ≡ ending_for outcome note }
 {
     match outcome {
-        Ok(Outcome::Done) => Ending::Done,
+        Ok(Outcome::Done) => match note {
+            Some(note) => Ending::Noted(Note::Task(note)),
+            None => Ending::Done,
+        },
         Ok(Outcome::Refused(number)) => Ending::Refused(number),
         Ok(Outcome::SomeRefused) => Ending::SomeRefused,
         Err(stop) => Ending::Stopped(stop),
@@ -91,7 +96,7 @@ pub(crate) fn do_on_file<P: Paths, K: Timekeeper, N: Network, D: Desk, R: Read, 
         Ok(vault) => vault,
         Err((fault, left)) => return (Ending::NotOpened(fault), left),
     };
-    let outcome = do_task(rt, time, network, desk, task, &mut vault, input, output);
+    let (outcome, note) = do_task(rt, time, network, desk, task, &mut vault, input, output);
     let left = close(vault.into_tables().into_connection());
-    (ending_of(outcome), Some(left))
+    (ending_of(outcome, note), Some(left))
 }

@@ -72,8 +72,8 @@ pub(crate) fn report<W: Write, E: Write>(
 ) -> u8
     // it is the ending's exit status
     ensures status { result ≡ status_of ending.now }
-    // the output says a version or a refusal, the errors any other obstacle or a log, unless the writer
-    // fails; all else stays
+    // the output says a version or a refusal, the errors any other obstacle, a note, or which word is no
+    // name or right, unless the writer fails; all else stays
     ensures said { Says why.now ending.now (output.new ≡ output.old) (errors.new ≡ errors.old)
         (Tells (W.contents (inner_of output.old)) (W.contents (inner_of output.new))
         (is_stopped output.new))
@@ -82,11 +82,8 @@ pub(crate) fn report<W: Write, E: Write>(
 {
     match ending {
         Ending::Done => 0,
-        Ending::DoneWithLog => {
-            tell(
-                errors,
-                &["vault: the file has a log, FILE-wal, and a copy needs both\n"],
-            );
+        Ending::Noted(note) => {
+            tell(errors, &[note.line()]);
             0
         }
         Ending::Version => {
@@ -95,6 +92,11 @@ pub(crate) fn report<W: Write, E: Write>(
         }
         Ending::Refused(number) => {
             tell_numbered(output, "refused ", *number);
+            1
+        }
+        Ending::Misnamed(placeholder) => {
+            tell_numbered(output, "refused ", placeholder.number());
+            tell(errors, &[placeholder.line()]);
             1
         }
         Ending::SomeRefused => 1,

@@ -9,14 +9,17 @@ ghost use Rattle.vault_live.specs.Turns.{Turn, events_in};
 ghost use Rattle.vault_jobs.specs.Streams.{Streams, streams, with_turns};
 ghost use Rattle.vault_live.specs.Told.{Tells};
 ghost use Rattle.vault_words.specs.Why.{HasFewDigits};
-ghost use Rattle.vault_app.specs.Ending.{bad_words_line, log_line, stop_line};
+ghost use Rattle.vault_app.specs.Ending.{bad_words_line, note_line, placeholder_line, stop_line};
 ghost use Rattle.vault_app.specs.Jobs.{Does, DoesPlan, RunsAs};
-ghost use Rattle.vault_app.specs.Plans.{EndsPlanless, IsPlanOf, IsProperPlan};
-ghost use Rattle.vault_app.specs.Asked.{AsksFor, IsBatch, IsCheck};
+ghost use Rattle.vault_app.specs.Plans.{EndsPlanless, IsMisnamed, IsPlanOf, IsProperPlan};
+ghost use Rattle.vault_app.specs.Asked.{AsksFor, IsBatch};
+ghost use Rattle.vault_app.specs.Notes.{MayNote};
 ghost use Rattle.vault_app.specs.World.{World, no_looks, world_at};
+ghost use Rattle.vault_app.specs.declared.note.Note.{Note};
+ghost use Rattle.vault_app.specs.declared.placeholder.Placeholder.{Placeholder};
 
 use crate::commands::check::tell_sizes;
-use crate::commands::migrate::tell_moved;
+use crate::commands::migrate::{has_no_vault, tell_moved};
 use crate::commands::trial;
 use crate::ending::Ending;
 use crate::on_file::do_on_file;
@@ -105,8 +108,9 @@ fn carry_out<P: Paths, K: Timekeeper, N: Network, D: Desk, R: Read, W: Write>(
             (tell_sizes(checked, has_log, output), left)
         }
         Plan::Migrate(path) => {
+            let was_empty = has_no_vault(rt, &paths, path);
             let (moved, left) = migrate_file(rt, path, paths);
-            (tell_moved(moved, output), left)
+            (tell_moved(moved, was_empty, output), left)
         }
         Plan::Do(path, task) => {
             do_on_file(rt, path, paths, time, network, desk, &task, input, output)
@@ -157,10 +161,12 @@ fn why_bad<A: AsStr>(alloc: Global, words: &[A], ending: &Ending) -> String
 /// the files that it leaves. `paths` tells what stands at paths, `time` the moments that the words don't
 /// fix; on `network` a service listens, and `desk` reads the list that it follows.
 ///
-/// The first word is the program's name. A line on the output or on the errors goes with each status but 0,
-/// and with that of a check whose file has a log:
+/// The first word is the program's name. A line on the output or on the errors goes with each status but 0:
 /// `refused n`, `vault: bad words` with lines that say why, `vault: file not opened n` or `n m`,
-/// `vault: stopped n`.
+/// `vault: stopped n`. Beside `refused n` the errors say which word is no name or no right, if one is none.
+/// With 0 they say what is to be noted: that a checked file has a log, that there was no vault to move, that
+/// a merchant that was to be swept isn't known or is far behind the clock, or that there was nothing to
+/// withdraw.
 pub fn run<P: Paths, K: Timekeeper, N: Network, D: Desk, A: AsStr, R: Read, W: Write, E: Write>(
     rt: &HostRuntime,
     paths: P,
@@ -182,12 +188,16 @@ pub fn run<P: Paths, K: Timekeeper, N: Network, D: Desk, A: AsStr, R: Read, W: W
         errors.new }
     // the status is 0, 1, 2, 3 or 4
     ensures status { (result.0 ≡ 0) ⊎ (result.0 ≡ 1) ⊎ (result.0 ≡ 2) ⊎ (result.0 ≡ 3) ⊎ (result.0 ≡ 4) }
-    // with status 1, nothing went out on the errors
-    ensures silent { result.0 ≡ 1 → errors.new ≡ errors.old }
-    // where nothing was refused, only a check says something on the errors
-    ensures silent_done { result.0 ≡ 0 → (errors.new ≡ errors.old) ⊎ AsksFor (map A.text words.now) IsCheck
+    // with status 1, nothing went out on the errors, or which word of a job is no name or no right
+    ensures silent { result.0 ≡ 1 → (errors.new ≡ errors.old) ⊎ (placeholder : Placeholder)
+        × AsksFor (map A.text words.now) (IsMisnamed placeholder)
         × Tells (E.contents (inner_of errors.old)) (E.contents (inner_of errors.new))
-        (is_stopped errors.new) log_line }
+        (is_stopped errors.new) (placeholder_line placeholder) }
+    // with status 0, nothing went out on the errors, or a note that the job which the words ask for may have
+    ensures silent_done { result.0 ≡ 0 → (errors.new ≡ errors.old) ⊎ (note : Note)
+        × AsksFor (map A.text words.now) (MayNote note)
+        × Tells (E.contents (inner_of errors.old)) (E.contents (inner_of errors.new))
+        (is_stopped errors.new) (note_line note) }
     // with status 2 or 3, the input is unread
     ensures unread { (result.0 ≡ 2) ⊎ (result.0 ≡ 3) → input.new ≡ input.old }
     // with status 1, the input is unread, unless the words ask for a batch

@@ -6,6 +6,7 @@ pub mod Listed
 pub mod Parts
 pub mod RefinedPassages
 pub mod RefinedTasks
+pub mod RightsHeld
 pub mod Stops
 pub mod Sweeping
 pub mod Timed

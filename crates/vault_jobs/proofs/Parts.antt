@@ -1,7 +1,7 @@
 -- What a task does, by what its parts do.
-use Rattle.std.proofs.Common.{◌≡◌, ℕ, List, [], Bool, true, Result, Ok, Err}
+use Rattle.std.proofs.Common.{◌≡◌, ℕ, List, [], Bool, true, Option, None, Result, Ok, Err}
 use Rattle.std.proofs.Common.{inl, inr, length, ◌++◌}
-use Rattle.std.proofs.Common.{subst, sym}
+use Rattle.std.proofs.Common.{refl, subst, sym}
 use Rattle.std.specs.Prelude.{IfErr}
 use Rattle.vault_engine.specs.Passing.{Passage}
 use Rattle.vault_batch.specs.declared.asker.Asker.{Asker}
@@ -12,7 +12,8 @@ use Rattle.vault_listen.proofs.ServedConnections.{none_then}
 use Rattle.vault_store.specs.declared.vault.Fault.{Fault}
 use Rattle.vault_jobs.specs.Causes.{IsCause, IsCauseOf}
 use Rattle.vault_changes.specs.Carried.{Carries}
-use Rattle.vault_jobs.specs.Doing.{BeginEnds, CommandsEnd, Does, ListedServeEnds, ServeEnds, SetEnds}
+use Rattle.vault_jobs.specs.Doing.{BeginEnds, ChangeEnds, CommandsEnd, Does, ListedServeEnds, ServeEnds}
+use Rattle.vault_jobs.specs.Doing.{SetEnds}
 use Rattle.vault_jobs.specs.Doing.{SettleEnds, ShowEnds, SweepEnds, TimedSweepEnds, Works, behind}
 use Rattle.vault_store.specs.declared.vault.Fault.TheVariants as vault
 use Rattle.vault_changes.specs.Grants.{CarriesAll, grants_at}
@@ -31,6 +32,8 @@ use Rattle.vault_jobs.specs.declared.clock.Giver.TheVariants.{Words, Clock}
 use Rattle.vault_jobs.specs.declared.show.Shown.{Shown}
 use Rattle.vault_core.specs.declared.command.Command.{Command}
 use Rattle.vault_jobs.specs.Lists.{asked_of, begin_of}
+use Rattle.vault_jobs.specs.Notes.{IsNoted, note_of}
+use Rattle.vault_jobs.specs.declared.note.Note.{Note}
 use Rattle.vault_jobs.specs.Outside.{Outside}
 use Rattle.vault_jobs.specs.Streams.{Known, Streams}
 use Rattle.vault_changes.specs.Carried.{Verdict}
@@ -48,6 +51,12 @@ module _ (unsent : Type 0) (old new : Known) (s : Streams) where
   commands_caused P line (Err (Listener f)) h = absurd h
   commands_caused P line (Err (Rights f)) h = absurd h
   commands_caused P line (Err (stop.Batch f)) h = absurd h
+
+  change_caused : (c : Command) (w : Passage) (broken : Bool) (r : Result Outcome Stop)
+      → ChangeEnds c w broken r unsent old new s.writer → IfErr r (λ stop. IsCauseOf stop s)
+  change_caused c w broken r (inl h) = commands_caused (Carries c w broken) _ r h
+  change_caused c w broken r (inr (f, is, silent, h, some)) =
+      subst (λ e. IfErr e (λ stop. IsCauseOf stop s)) (sym is) tt
 
   sweep_caused : (who : Asker) (now : ℕ) (w : Passage) (broken : Bool) (r : Result Outcome Stop)
       → SweepEnds who now w broken r unsent old new s.writer → IfErr r (λ stop. IsCauseOf stop s)
@@ -139,22 +148,36 @@ pub unlinked : (tells : List Event → Type 0) (P : List Turn → Type 0) → P 
     → (turns : List Turn) × ((log : List Event) → tells log → tells (log ++ events_in turns)) × P turns
 unlinked tells P done = ([], none_then tells, done)
 
+-- of these tasks nothing is noted
+unnoted : (w : Passage) (r : Result Outcome Stop) (task : Task) → ((V : Content) → note_of task V ≡ None)
+    → IsNoted task w r None
+unnoted w r task none = record { fits = tt; exact = λ done V b. sym (none V) }
+
 module _ {at : Outside} {w : Passage} {broken : Bool} {r : Result Outcome Stop} {unread unsent : Type 0}
     {s : Streams} where
   -- a task by what it does
-  pub task_done : {task : Task} → Works at task w broken r unread unsent s → IsTaskBegun task unread
+  pub task_done : {task : Task} → ((V : Content) → note_of task V ≡ None)
+      → Works at task w broken r unread unsent s → IsTaskBegun task unread
       → HasNoTurns task s → IfErr r (λ stop. IsCauseOf stop s) → BreaksBy task r broken
-      → Does at task w broken r unread unsent s
-  task_done h calm none caused breaks =
-      record { works = h; begun = calm; alone = none; caused = caused; breaks = breaks }
-
-  pub change_done : (c : Command) → unread → s.turns ≡ [] → (broken ≡ true → FailsStore r)
-      → Works at (Change c) w broken r unread unsent s → Does at (Change c) w broken r unread unsent s
-  change_done c calm none breaks h = record {
+      → Does at task w broken r None unread unsent s
+  task_done {task = task} never h calm none caused breaks = record {
     works = h;
+    noted = unnoted w r task never;
     begun = calm;
     alone = none;
-    caused = commands_caused unsent s.sent_old s.sent_new s (Carries c w broken) _ r h;
+    caused = caused;
+    breaks = breaks;
+  }
+
+  pub change_done : (c : Command) (it : Option Note) → unread → s.turns ≡ []
+      → (broken ≡ true → FailsStore r) → IsNoted (Change c) w r it
+      → Works at (Change c) w broken r unread unsent s → Does at (Change c) w broken r it unread unsent s
+  change_done c it calm none breaks noted h = record {
+    works = h;
+    noted = noted;
+    begun = calm;
+    alone = none;
+    caused = change_caused unsent s.sent_old s.sent_new s c w broken r h;
     breaks = (breaks, λ _. inr tt);
   }
 
@@ -163,7 +186,7 @@ module _ {at : Outside} {w : Passage} {broken : Bool} {r : Result Outcome Stop} 
       → s.turns ≡ [] → (broken ≡ true → FailsStore r)
       → CommandsEnd (CarriesAll (grants_at then listed) w broken) (granted_line (length listed)) r unsent
       s.sent_old s.sent_new s.writer
-      → Does at (Give rows now) w broken r unread unsent s
+      → Does at (Give rows now) w broken r None unread unsent s
   give_done rows now then listed same is calm none breaks h =
       let works : Works at (Give rows now) w broken r unread unsent s =
       subst (λ xs. CommandsEnd (CarriesAll (grants_at now xs) w broken) (granted_line (length xs)) r unsent
@@ -172,6 +195,7 @@ module _ {at : Outside} {w : Passage} {broken : Bool} {r : Result Outcome Stop} 
       unsent s.sent_old s.sent_new s.writer) is h) in
       record {
         works = works;
+        noted = unnoted w r (Give rows now) (λ V. refl);
         begun = calm;
         alone = none;
         caused = commands_caused unsent s.sent_old s.sent_new s
@@ -179,11 +203,13 @@ module _ {at : Outside} {w : Passage} {broken : Bool} {r : Result Outcome Stop} 
         breaks = (breaks, λ _. inr tt);
       }
 
-  pub sweep_done : (who : Asker) (now : ℕ) (giver : Giver) → unread → s.turns ≡ []
-      → (broken ≡ true → FailsStore r) → Works at (Sweep who now giver) w broken r unread unsent s
-      → Does at (Sweep who now giver) w broken r unread unsent s
-  sweep_done who now giver calm none breaks h = record {
+  pub sweep_done : (who : Asker) (now : ℕ) (giver : Giver) (it : Option Note) → unread → s.turns ≡ []
+      → (broken ≡ true → FailsStore r) → IsNoted (Sweep who now giver) w r it
+      → Works at (Sweep who now giver) w broken r unread unsent s
+      → Does at (Sweep who now giver) w broken r it unread unsent s
+  sweep_done who now giver it calm none breaks noted h = record {
     works = h;
+    noted = noted;
     begun = calm;
     alone = none;
     caused = timed_sweep_caused unsent s.sent_old s.sent_new s giver who now w broken r h;
@@ -193,9 +219,10 @@ module _ {at : Outside} {w : Passage} {broken : Bool} {r : Result Outcome Stop} 
   pub serve_done : (port most : ℕ) (lists : Lists) → unread
       → BreaksBy (Serve port most lists) r broken
       → Works at (Serve port most lists) w broken r unread unsent s
-      → Does at (Serve port most lists) w broken r unread unsent s
+      → Does at (Serve port most lists) w broken r None unread unsent s
   serve_done port most lists calm breaks h = record {
     works = h;
+    noted = unnoted w r (Serve port most lists) (λ V. refl);
     begun = calm;
     alone = tt;
     caused = listed_caused unsent s.sent_old s.sent_new s at port most lists w broken r s.turns h;
@@ -205,12 +232,13 @@ module _ {at : Outside} {w : Passage} {broken : Bool} {r : Result Outcome Stop} 
   pub settle_done : (rows : Vec Row) (now : ℕ) (listed : List Row) → listed ≡ rows.items → unread
       → s.turns ≡ [] → (broken ≡ true → FailsStore r)
       → SettleEnds now listed w broken r unsent s.sent_old s.sent_new s.writer
-      → Does at (Settle rows now) w broken r unread unsent s
+      → Does at (Settle rows now) w broken r None unread unsent s
   settle_done rows now listed same calm none breaks h =
       let works : Works at (Settle rows now) w broken r unread unsent s =
       subst (λ xs. SettleEnds now xs w broken r unsent s.sent_old s.sent_new s.writer) same h in
       record {
         works = works;
+        noted = unnoted w r (Settle rows now) (λ V. refl);
         begun = calm;
         alone = none;
         caused = settle_caused unsent s.sent_old s.sent_new s now rows.items w broken r works;
@@ -220,12 +248,13 @@ module _ {at : Outside} {w : Passage} {broken : Bool} {r : Result Outcome Stop} 
   pub set_done : (rows : Vec Wanted) (now : ℕ) (listed : List Wanted) → listed ≡ rows.items → unread
       → s.turns ≡ [] → (broken ≡ true → FailsStore r)
       → SetEnds now listed w broken r unsent s.sent_old s.sent_new s.writer
-      → Does at (SetMerchants rows now) w broken r unread unsent s
+      → Does at (SetMerchants rows now) w broken r None unread unsent s
   set_done rows now listed same calm none breaks h =
       let works : Works at (SetMerchants rows now) w broken r unread unsent s =
       subst (λ xs. SetEnds now xs w broken r unsent s.sent_old s.sent_new s.writer) same h in
       record {
         works = works;
+        noted = unnoted w r (SetMerchants rows now) (λ V. refl);
         begun = calm;
         alone = none;
         caused = set_caused unsent s.sent_old s.sent_new s now rows.items w broken r works;
@@ -234,9 +263,10 @@ module _ {at : Outside} {w : Passage} {broken : Bool} {r : Result Outcome Stop} 
 
   pub show_done : (it : Shown) → unread → s.turns ≡ [] → (broken ≡ true → FailsStore r)
       → Works at (Show it) w broken r unread unsent s
-      → Does at (Show it) w broken r unread unsent s
+      → Does at (Show it) w broken r None unread unsent s
   show_done it calm none breaks h = record {
     works = h;
+    noted = unnoted w r (Show it) (λ V. refl);
     begun = calm;
     alone = none;
     caused = show_caused unsent s.sent_old s.sent_new s (shown_text it) w broken r h;

@@ -33,7 +33,7 @@ use Rattle.vault_changes.specs.Carried.{Carries}
 use Rattle.vault_changes.proofs.Refining.{carries_all, over}
 use Rattle.vault_changes.specs.Settling.{FailsToRead, IsUntouched}
 use Rattle.vault_jobs.specs.Beginning.{CarriesOut, CarriesTo}
-use Rattle.vault_jobs.specs.Doing.{BeginEnds, CommandsEnd}
+use Rattle.vault_jobs.specs.Doing.{BeginEnds, ChangeEnds, CommandsEnd}
 use Rattle.vault_jobs.specs.Lists.{begin_of}
 use Rattle.vault_jobs.specs.declared.lists.Lists.{Lists}
 use Rattle.vault_jobs.specs.Doing.{ServeEnds, SetEnds, SettleEnds, ShowEnds}
@@ -344,6 +344,14 @@ module _ (H : Type 0) (O N : Content → Type 0) (L : Content → Content → Ty
   fails_to_read broken Memory same = untouched same
   fails_to_read broken Store (is, h) = (is, λ V b. torn b.0 V V (h V (was V b.0 b.1)))
   fails_to_read broken Reopen h = h
+
+  pub change_ends : (c : Command) (broken : Bool) (r : Result Outcome Stop) (unsent : Type 0)
+      (old new : Known) (writer : Bool) → ChangeEnds c w broken r unsent old new writer
+      → ChangeEnds c (over H O N L w) broken r unsent old new writer
+  change_ends c broken r unsent old new writer (inl h) =
+      inl (commands_end _ _ (carries c broken) _ r unsent old new writer h)
+  change_ends c broken r unsent old new writer (inr (f, is, silent, h, some)) =
+      inr (f, is, silent, fails_to_read broken f h, some)
 
   pub settle_ends : (now : ℕ) (rows : List Row) (broken : Bool) (r : Result Outcome Stop) (unsent : Type 0)
       (old new : Known) (writer : Bool) → SettleEnds now rows w broken r unsent old new writer

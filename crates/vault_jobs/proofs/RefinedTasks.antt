@@ -23,8 +23,9 @@ use Rattle.vault_jobs.specs.declared.task.Task.{Task}
 use Rattle.vault_jobs.specs.declared.task.Task.TheVariants.{Change, Give, Settle, SetMerchants, Sweep, Batch}
 use Rattle.vault_jobs.specs.declared.task.Task.TheVariants.{Pipe, Serve, Show}
 use Rattle.vault_jobs.specs.declared.lists.Lists.{Lists}
+use Rattle.vault_jobs.specs.declared.note.Note.{Note}
 use Rattle.vault_changes.proofs.Refining.{carries_all, over}
-use Rattle.vault_jobs.proofs.RefinedPassages.{batched, begin_ends, carries, commands_end}
+use Rattle.vault_jobs.proofs.RefinedPassages.{batched, begin_ends, change_ends, commands_end}
 use Rattle.vault_jobs.proofs.RefinedPassages.{piped, serve_ends}
 use Rattle.vault_jobs.proofs.RefinedPassages.{set_ends, settle_ends, show_ends, stops_batch, stops_piping}
 use Rattle.vault_jobs.proofs.RefinedPassages.{timed_sweep_ends, untouched}
@@ -89,7 +90,7 @@ module _ (H : Type 0) (O N : Content → Type 0) (L : Content → Content → Ty
       → Works at task w broken r unread unsent s
       → Works at task (over H O N L w) broken r unread unsent s
   works at (Change c) broken r unread unsent h =
-      commands_end H O N L w was kept torn _ _ (carries H O N L w was kept torn c broken) _ r unsent _ _ _ h
+      change_ends H O N L w was kept torn c broken r unsent _ _ _ h
   works at (Give rows now) broken r unread unsent h =
       commands_end H O N L w was kept torn _ _
       (carries_all H O N L w was kept torn (grants_at now rows.items) broken) _ r unsent _ _ _ h
@@ -107,11 +108,12 @@ module _ (H : Type 0) (O N : Content → Type 0) (L : Content → Content → Ty
   works at (Show it) broken r unread unsent h =
       show_ends H O N L w was kept torn (shown_text it) broken r unsent _ _ _ h
 
-  pub refined : (at : Outside) (task : Task) (broken : Bool) (r : Result Outcome Stop)
-      (unread unsent : Type 0) → Does at task w broken r unread unsent s
-      → Does at task (over H O N L w) broken r unread unsent s
-  refined at task broken r unread unsent h = record {
+  pub refined : (at : Outside) (task : Task) (broken : Bool) (r : Result Outcome Stop) (it : Option Note)
+      (unread unsent : Type 0) → Does at task w broken r it unread unsent s
+      → Does at task (over H O N L w) broken r it unread unsent s
+  refined at task broken r it unread unsent h = record {
     works = works at task broken r unread unsent h.works;
+    noted = record { fits = h.noted.fits; exact = λ done V b. h.noted.exact done V (was V b.0 b.1) };
     begun = h.begun;
     alone = h.alone;
     caused = h.caused;

@@ -1,6 +1,6 @@
 -- What a task does with a vault, by how it ends.
 use Rattle.std.specs.Prelude.{◌≡◌, ◌≢◌, ◌⊎◌, ℕ, ◌≤◌, List, [], IfErr, Option, Bool, true, false, Result, Ok}
-use Rattle.std.specs.Prelude.{Err, codes, length, take}
+use Rattle.std.specs.Prelude.{Err, IsSome, codes, length, take}
 use Rattle.std.specs.Io.KnownBytes.{Appends, IsAtEnd}
 use Rattle.vault_core.specs.Runs.{run}
 use Rattle.vault_core.specs.Vault.{Vault as Content}
@@ -29,6 +29,7 @@ use Rattle.vault_jobs.specs.Lists.{asked_of, begin_of, follows}
 use Rattle.vault_changes.specs.Carried.{Carries}
 use Rattle.vault_jobs.specs.Causes.{IsCauseOf}
 use Rattle.vault_changes.specs.Grants.{AreDone, CarriesAll, grants_at}
+use Rattle.vault_jobs.specs.Notes.{IsNoted, withdrawn_by}
 use Rattle.vault_jobs.specs.Outcomes.{ComesTo, no_outcome}
 use Rattle.vault_jobs.specs.Outside.{Outside}
 use Rattle.vault_jobs.specs.Piped.{IsPiped, StopsPiping}
@@ -38,6 +39,7 @@ use Rattle.vault_jobs.specs.Tasks.{BreaksBy, HasNoTurns, IsTaskBegun, granted_li
 use Rattle.vault_jobs.specs.Tasks.{listening_line, merchants_line, purged_line}
 use Rattle.vault_jobs.specs.declared.clock.Giver.{Giver}
 use Rattle.vault_jobs.specs.declared.clock.Giver.TheVariants.{Words, Clock}
+use Rattle.vault_jobs.specs.declared.note.Note.{Note}
 use Rattle.vault_changes.specs.Carried.{Verdict}
 use Rattle.vault_jobs.specs.declared.stop.Stop.{Stop}
 use Rattle.vault_jobs.specs.declared.stop.Stop.TheVariants.{Vault}
@@ -77,6 +79,14 @@ CommandsEnd Carried line result unsent old new writer = ComesTo (record no_outco
   vault = λ f. unsent × Carried (Err f);
   service = λ f. (f ≡ service.Write) × (writer ≡ true) × Carried (Ok (Ok tt));
 }) result
+
+-- How one command ends: as commands do that come to a verdict. Or it takes a right away, and before that the
+-- rights weren't read, which tell whether it is there.
+abbrev pub ChangeEnds : Command → Passage → Bool → Result Outcome Stop → Type 0 → Known → Known → Bool
+    → Type 0
+ChangeEnds c w broken result unsent old new writer =
+    CommandsEnd (Carries c w broken) (codes "done\n") result unsent old new writer
+    ⊎ ((f : Fault) × (result ≡ Err (Vault f)) × unsent × FailsToRead w broken f × IsSome (withdrawn_by c))
 
 -- how a sweep ends: with Done its line says how many were purged, and went out; with a refusal of a purge
 -- nothing went out; where the writer failed all were purged
@@ -205,8 +215,7 @@ ListedServeEnds at port most lists w broken result unsent old new writer turns =
 -- what a task does with a vault, and what goes out, by how it ends
 abbrev pub Works : Outside → Task → Passage → Bool → Result Outcome Stop → Type 0 → Type 0 → Streams → Type 0
 Works at (Change c) w broken result unread unsent s =
-    CommandsEnd (Carries c w broken) (codes "done\n") result
-    unsent s.sent_old s.sent_new s.writer
+    ChangeEnds c w broken result unsent s.sent_old s.sent_new s.writer
 Works at (Give rows now) w broken result unread unsent s =
     CommandsEnd (CarriesAll (grants_at now rows.items) w broken) (granted_line (length rows.items)) result
     unsent s.sent_old s.sent_new s.writer
@@ -225,12 +234,13 @@ Works at (Serve port connections lists) w broken result unread unsent s =
 Works at (Show it) w broken result unread unsent s =
     ShowEnds (shown_text it) w broken result unsent s.sent_old s.sent_new s.writer
 
--- What a task does: it works so; the input is unread, but by a batch and messages; there are no turns, but
--- of a service; a reader or a writer stops it only where that failed; and the vault is broken by a store that
--- fails.
+-- What a task does: it works so; what is noted of it is exactly what is to be; the input is unread, but by a
+-- batch and messages; there are no turns, but of a service; a reader or a writer stops it only where that
+-- failed; and the vault is broken by a store that fails.
 pub record Does (at : Outside) (task : Task) (w : Passage) (broken : Bool) (result : Result Outcome Stop)
-    (unread unsent : Type 0) (s : Streams) : Type 0 where
+    (note : Option Note) (unread unsent : Type 0) (s : Streams) : Type 0 where
   pub works : Works at task w broken result unread unsent s
+  pub noted : IsNoted task w result note
   pub begun : IsTaskBegun task unread
   pub alone : HasNoTurns task s
   pub caused : IfErr result (λ stop. IsCauseOf stop s)

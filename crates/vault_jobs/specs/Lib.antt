@@ -7,6 +7,7 @@ pub mod Failing
 pub mod Listing
 pub mod Lists
 pub mod Moments
+pub mod Notes
 pub mod Outcomes
 pub mod Outside
 pub mod Piped

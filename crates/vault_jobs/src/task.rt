@@ -1,42 +1,40 @@
 //! What is done with a vault.
-ghost use Rattle.std.specs.Prelude.{◌≡◌, ◌++◌, All, IfErr, List, codes, false, length, true};
-ghost use Rattle.vault_core.specs.Proper.{HasLivesInRange};
+ghost use Rattle.std.specs.Prelude.{◌≡◌, ◌++◌, All, IfErr, List, false, length, true};
 ghost use Rattle.vault_store.specs.Applied.{is_broken, tables_of};
 ghost use Rattle.vault_engine.specs.Passing.{Passage};
 ghost use Rattle.vault_listen.specs.Peers.{Event, vault_passing};
 ghost use Rattle.vault_live.specs.Turns.{Turn, events_in};
-ghost use Rattle.vault_changes.specs.Carried.{Carries};
 ghost use Rattle.vault_wire.specs.Watching.{inner_of, is_stopped};
 ghost use Rattle.vault_jobs.specs.Causes.{IsCauseOf};
 ghost use Rattle.vault_jobs.specs.Outside.{outside};
 ghost use Rattle.vault_jobs.specs.Streams.{Streams, streams, with_turns};
 ghost use Rattle.vault_jobs.specs.Doing.{BatchEnds, CommandsEnd, Does, PipeEnds};
-ghost use Rattle.vault_jobs.specs.Doing.{SetEnds, SettleEnds, ShowEnds, SweepEnds, TimedSweepEnds};
+ghost use Rattle.vault_jobs.specs.Doing.{SetEnds, SettleEnds, ShowEnds};
 ghost use Rattle.vault_jobs.specs.Listing.{shown_text};
 ghost use Rattle.vault_changes.specs.Grants.{CarriesAll, grants_at};
 ghost use Rattle.vault_changes.specs.Settings.{HasLives};
 ghost use Rattle.vault_jobs.specs.Tasks.{BreaksBy, BreaksTask, IsProper, granted_line};
 ghost use Rattle.vault_jobs.specs.declared.task.Task.{Task};
 
-use crate::ahead::is_ahead;
 use crate::answer::{answer, answer_text};
 use crate::batch::batch_input;
+use crate::changed::do_change;
 use crate::clock::Giver;
 use crate::grants::give_all;
 use crate::lists::Lists;
+use crate::note::Note;
 use crate::pipe::pipe;
 use crate::serving::serve_lists;
 use crate::show::Shown;
 use crate::shown::text_of;
 use crate::source::{MOST_MESSAGES, MOST_ROWS, pairs};
 use crate::stop::Stop;
-use crate::sweep::sweep;
+use crate::swept::do_sweep;
 use itoa::Buffer;
 use std::alloc::Global;
 use std::io::{Read, Write};
 use vault_batch::asker::Asker;
 use vault_batch::fault::BatchFault;
-use vault_changes::change::change;
 use vault_changes::changes::ListedRight;
 use vault_changes::settings::set_merchants;
 use vault_changes::settle::settle;
@@ -48,7 +46,6 @@ use vault_listen::time::Timekeeper;
 use vault_live::desk::Desk;
 use vault_merchants::read::ListedMerchant;
 use vault_pan::draw::Digits;
-use vault_refusal::refusal::Refusal;
 use vault_store::tables::Tables;
 use vault_store::vault::Vault;
 use vault_wire::watched::Watched;
@@ -89,35 +86,8 @@ pub enum Outcome {
     SomeRefused,
 }
 
-/// Carries out a command, and says `done`.
-fn do_change<W: Write, T: Tables>(
-    vault: &mut Vault<T>,
-    command: &Command,
-    output: &mut Watched<W>,
-) -> Result<Outcome, Stop>
-    // the lives that the command sets, if any, are in range
-    requires lives { HasLivesInRange command.now }
-    requires unbroken { is_broken vault.old ≡ false }
-    // with Done the line `done` went out; with Done or Write, on an honest disk, the command is done; else
-    // nothing went out
-    ensures does { let w : Passage = vault_passing T.is_honest T.holds T.leaves vault.old vault.new in
-        CommandsEnd (Carries command.now w (is_broken vault.new)) (codes "done\n") result
-        (output.new ≡ output.old) (W.contents (inner_of output.old)) (W.contents (inner_of output.new))
-        (is_stopped output.new) }
-    // the vault is broken only where the store failed
-    ensures breaks { BreaksTask vault.new result }
-    // a disk that is honest after the call was so before it
-    ensures disk_honest { T.is_honest (tables_of vault.new) → T.is_honest (tables_of vault.old) }
-{
-    match change(vault, command) {
-        Ok(Ok(())) => match answer(output, &["done\n"]) {
-            Ok(()) => Ok(Outcome::Done),
-            Err(fault) => Err(Stop::Service(fault)),
-        },
-        Ok(Err(number)) => Ok(Outcome::Refused(number)),
-        Err(fault) => Err(Stop::Vault(fault)),
-    }
-}
+/// How a task ends, and what is noted beside it.
+pub type Noted = (Result<Outcome, Stop>, Option<Note>);
 
 /// Gives rights, and says how many.
 fn do_give<W: Write, T: Tables>(
@@ -256,68 +226,6 @@ fn do_show<W: Write, T: Tables>(
     }
 }
 
-/// Purges the numbers of dead tokens, and says how many.
-fn do_purges<W: Write, T: Tables>(
-    vault: &mut Vault<T>,
-    asker: Asker,
-    now: Moment,
-    output: &mut Watched<W>,
-) -> Result<Outcome, Stop>
-    // the vault isn't broken
-    requires { is_broken vault.old ≡ false }
-    // with Done the line went out; with Done or Write, on an honest disk, all dead tokens' numbers are
-    // purged; else nothing went out
-    ensures swept { let w : Passage = vault_passing T.is_honest T.holds T.leaves vault.old vault.new in
-        SweepEnds asker now w (is_broken vault.new) result (output.new ≡ output.old)
-        (W.contents (inner_of output.old)) (W.contents (inner_of output.new)) (is_stopped output.new) }
-    // the vault is broken only where the store failed
-    ensures breaks { BreaksTask vault.new result }
-    // a disk that is honest after the call was so before it
-    ensures disk_honest { T.is_honest (tables_of vault.new) → T.is_honest (tables_of vault.old) }
-{
-    match sweep(vault, &asker, now) {
-        Ok(Ok(count)) => {
-            let mut digits = Buffer::new();
-            match answer(output, &["purged ", digits.format(count), "\n"]) {
-                Ok(()) => Ok(Outcome::Done),
-                Err(fault) => Err(Stop::Service(fault)),
-            }
-        }
-        Ok(Err(number)) => Ok(Outcome::Refused(number)),
-        Err(fault) => Err(Stop::Vault(fault)),
-    }
-}
-
-/// Sweeps at a moment; but at one that the clock told not where the merchant's is far ahead of it.
-fn do_sweep<W: Write, T: Tables>(
-    vault: &mut Vault<T>,
-    asker: Asker,
-    now: Moment,
-    giver: Giver,
-    output: &mut Watched<W>,
-) -> Result<Outcome, Stop>
-    // the vault isn't broken
-    requires { is_broken vault.old ≡ false }
-    // at the words' moment it sweeps; at the clock's, on an honest disk, only where the merchant's isn't far
-    // ahead
-    ensures swept { let w : Passage = vault_passing T.is_honest T.holds T.leaves vault.old vault.new in
-        TimedSweepEnds giver asker now w (is_broken vault.new) result (output.new ≡ output.old)
-        (W.contents (inner_of output.old)) (W.contents (inner_of output.new)) (is_stopped output.new) }
-    // the vault is broken only where the store failed
-    ensures breaks { BreaksTask vault.new result }
-    // a disk that is honest after the call was so before it
-    ensures disk_honest { T.is_honest (tables_of vault.new) → T.is_honest (tables_of vault.old) }
-{
-    match giver {
-        Giver::Words => do_purges(vault, asker, now, output),
-        Giver::Clock => match is_ahead(vault, asker.merchant, now) {
-            Ok(true) => Ok(Outcome::Refused(Refusal::MomentAhead.number())),
-            Ok(false) => do_purges(vault, asker, now, output),
-            Err(fault) => Err(Stop::Vault(fault)),
-        },
-    }
-}
-
 /// Answers the rows of the input.
 fn do_batch<K: Timekeeper, R: Read, W: Write, T: Tables>(
     rt: &HostRuntime,
@@ -404,34 +312,43 @@ pub fn do_task<K: Timekeeper, N: Network, D: Desk, R: Read, W: Write, T: Tables>
     vault: &mut Vault<T>,
     input: &mut Watched<R>,
     output: &mut Watched<W>,
-) -> Result<Outcome, Stop>
+) -> Noted
     // the lives that the command of a `Change` sets, if any, and those of a list of merchants are in range
     requires proper { IsProper task.now }
     requires unbroken { is_broken vault.old ≡ false }
-    // by how it ends: what it did to the vault, what it read and sent, and which turns the network tells of
+    // by how it ends: what it did to the vault, what it read and sent, what is noted, and which turns the
+    // network tells of
     ensures does { let w : Passage = vault_passing T.is_honest T.holds T.leaves vault.old vault.new in
         let s : Streams = streams R.remaining input.old input.new W.contents output.old output.new in
         (turns : List Turn)
         × ((log : List Event) → N.tells network.old log → N.tells network.new (log ++ events_in turns))
-        × Does (outside (K.tells time.now) (D.says desk.now)) task.now w (is_broken vault.new) result
-        (input.new ≡ input.old) (output.new ≡ output.old) (with_turns s turns) }
+        × Does (outside (K.tells time.now) (D.says desk.now)) task.now w (is_broken vault.new)
+        result.0 result.1 (input.new ≡ input.old) (output.new ≡ output.old) (with_turns s turns) }
     // a disk that is honest after the call was so before it
     ensures disk_honest { T.is_honest (tables_of vault.new) → T.is_honest (tables_of vault.old) }
 {
     match *task {
         Task::Change(ref command) => do_change(vault, command, output),
-        Task::Give(ref rights, now) => do_give(vault, rights, now, output),
-        Task::Settle(ref rights, now) => do_settle(rt.alloc(), vault, rights, now, output),
+        Task::Give(ref rights, now) => (do_give(vault, rights, now, output), None),
+        Task::Settle(ref rights, now) => {
+            (do_settle(rt.alloc(), vault, rights, now, output), None)
+        }
         Task::SetMerchants(ref rows, now) => {
-            do_set_merchants(rt.alloc(), vault, rows, now, output)
+            (do_set_merchants(rt.alloc(), vault, rows, now, output), None)
         }
         Task::Sweep(asker, now, giver) => do_sweep(vault, asker, now, giver, output),
         Task::Batch(asker, moment, digits) => {
-            do_batch(rt, time, asker, moment, digits, vault, input, output)
+            let ended = do_batch(rt, time, asker, moment, digits, vault, input, output);
+            (ended, None)
         }
-        Task::Pipe(moment, digits) => do_pipe(rt, time, moment, digits, vault, input, output),
+        Task::Pipe(moment, digits) => {
+            (
+                do_pipe(rt, time, moment, digits, vault, input, output),
+                None,
+            )
+        }
         Task::Serve(port, connections, ref lists) => {
-            serve_lists(
+            let ended = serve_lists(
                 rt,
                 time,
                 network,
@@ -441,8 +358,9 @@ pub fn do_task<K: Timekeeper, N: Network, D: Desk, R: Read, W: Write, T: Tables>
                 lists,
                 vault,
                 output,
-            )
+            );
+            (ended, None)
         },
-        Task::Show(ref shown) => do_show(rt.alloc(), vault, shown, output),
+        Task::Show(ref shown) => (do_show(rt.alloc(), vault, shown, output), None),
     }
 }

@@ -25,6 +25,7 @@ use Rattle.vault_app.specs.Jobs.{Does as DoesWords, DoesPlan}
 use Rattle.vault_app.specs.World.{World, anything, outside_in, world_of}
 use Rattle.vault_app.specs.declared.ending.Ending.{Ending}
 use Rattle.vault_app.specs.declared.ending.Ending.TheVariants as ending
+use Rattle.vault_app.specs.declared.note.Note.TheVariants as note
 use Rattle.vault_app.specs.declared.plan.Plan.{Plan}
 use Rattle.vault_app.specs.declared.plan.Plan.TheVariants as plan
 use Rattle.vault_words.specs.Commands.{program_app}
@@ -76,9 +77,12 @@ module _ {D : Type 0} {g : Ghosts D} (world : World) (image : Image) (left : Fil
       (unread unsent : Type 0) (s : Streams)
       → DoesOnFile (outside_in world) (world.holds path) left t end unread unsent s → HoldSound image
   by_ending ending.Done opened path at t unread unsent s h = worked _ path at h
-  by_ending ending.DoneWithLog opened path at t unread unsent s h = absurd h
+  by_ending (ending.Noted note.Log) opened path at t unread unsent s h = absurd h
+  by_ending (ending.Noted note.Made) opened path at t unread unsent s h = absurd h
+  by_ending (ending.Noted (note.Task it)) opened path at t unread unsent s h = worked _ path at h
   by_ending ending.Version opened path at t unread unsent s h = absurd h
   by_ending (ending.Refused n) opened path at t unread unsent s h = worked _ path at h
+  by_ending (ending.Misnamed it) opened path at t unread unsent s h = absurd h
   by_ending ending.SomeRefused opened path at t unread unsent s h = worked _ path at h
   by_ending ending.BadWords opened path at t unread unsent s h = absurd h
   by_ending (ending.NotOpened why) opened path at t unread unsent s h = absurd (opened (why, refl))

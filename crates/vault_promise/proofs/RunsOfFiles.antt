@@ -28,6 +28,7 @@ use Rattle.vault_live.specs.Following.{Looks}
 use Rattle.vault_jobs.specs.Doing.{Does}
 use Rattle.vault_jobs.specs.Outside.{Outside}
 use Rattle.vault_jobs.specs.Streams.{Known, Streams, streams, with_turns}
+use Rattle.vault_jobs.specs.declared.note.Note.{Note as TaskNote}
 use Rattle.vault_jobs.specs.declared.stop.Stop.{Stop}
 use Rattle.vault_jobs.specs.declared.task.Outcome.{Outcome}
 use Rattle.vault_jobs.specs.declared.task.Outcome.TheVariants as outcome
@@ -41,6 +42,7 @@ use Rattle.vault_words.specs.declared.jobs.Job.{Job}
 use Rattle.vault_app.specs.Jobs.{Does as DoesWords, DoesPlan, IsChecked, IsMoved}
 use Rattle.vault_app.specs.Plans.{IsProperPlan, IsTaskOf, saying}
 use Rattle.vault_app.specs.Asked.{AsksFor, schema_line, sound_line}
+use Rattle.vault_app.specs.Ending.{IsDone}
 use Rattle.vault_app.specs.Values.{AreValues}
 use Rattle.vault_app.specs.World.{World, outside_in, world_of}
 use Rattle.vault_file.specs.Moved.{MovesAs, StaysOld}
@@ -50,6 +52,7 @@ use Rattle.vault_file.specs.declared.fault.NotOpened.{NotOpened as FileFault}
 use Rattle.vault_verdict.specs.declared.sizes.Sizes.{Sizes}
 use Rattle.vault_app.specs.declared.ending.Ending.{Ending}
 use Rattle.vault_app.specs.declared.ending.Ending.TheVariants as ending
+use Rattle.vault_app.specs.declared.note.Note.TheVariants as note
 use Rattle.vault_app.specs.declared.plan.Plan.{Plan}
 use Rattle.vault_app.specs.declared.plan.Plan.TheVariants as plan
 use Rattle.vault_promise.proofs.Batching.{batch_works}
@@ -59,11 +62,11 @@ use Rattle.vault_promise.proofs.PipedMessages.{pipe_works}
 use Rattle.vault_promise.proofs.RunHistories.{perhaps_sound}
 use Rattle.vault_promise.proofs.ListedMerchants.{set_works}
 use Rattle.vault_promise.proofs.Begun.{listed_serve_works}
-use Rattle.vault_promise.proofs.SettledRights.{settle_works, show_works}
-use Rattle.vault_promise.proofs.Spared.{early_free, left_alone, line_free, beside_free, new_spared, no_task}
+use Rattle.vault_promise.proofs.SettledRights.{changed_works, settle_works, show_works}
+use Rattle.vault_promise.proofs.Spared.{early_free, left_alone, line_free, new_spared, no_task}
 use Rattle.vault_promise.proofs.Spared.{none_checked, none_moved, spared_by, trial_free, unasked_free}
 use Rattle.vault_promise.proofs.Sweeping.{timed_sweep_works}
-use Rattle.vault_promise.proofs.TaskAnswers.{Works, change_works, give_works}
+use Rattle.vault_promise.proofs.TaskAnswers.{Works, give_works}
 use Rattle.vault_promise.proofs.Unplanned.{Fits, IsAt, any_early, fits, found_at, unasked}
 use Rattle.vault_promise.specs.Runs.{AreNew, AreOf, AsksMove, Bear, Comes, EveryRunIsOne, IsFound, IsRun}
 use Rattle.vault_promise.specs.Runs.{IsSpared, Leads, Leaves, Moments, Spared, Rests, Run, Work}
@@ -76,30 +79,30 @@ IsStill s = Consumes s.left_old s.left_new []
 
 -- what a task does, by its clause
 works : (at : Outside) (t : Task) (w : Passage) (V : Content) (b : IsBefore w V) → Sound V → (s : Streams)
-    (broken : Bool) (r : Result Outcome Stop) (unread unsent : Type 0) → (unread → IsStill s)
-    → (unsent → IsQuiet s) → AreValues t
-    → (F : Type 0) → (F → r ≡ Ok outcome.Done) → Does at t w broken r unread unsent s
+    (broken : Bool) (r : Result Outcome Stop) (it : Option TaskNote) (unread unsent : Type 0)
+    → (unread → IsStill s) → (unsent → IsQuiet s) → AreValues t
+    → (F : Type 0) → (F → r ≡ Ok outcome.Done) → Does at t w broken r it unread unsent s
     → Works at.tells w V t F s
-works at (task.Change c) w V b sound s broken r unread unsent still quiet values F fin h =
-    change_works at.tells w V b s unsent quiet F c values.0 values.1 broken r fin h.works
-works at (task.Give rights now) w V b sound s broken r unread unsent still quiet values F fin h =
+works at (task.Change c) w V b sound s broken r it unread unsent still quiet values F fin h =
+    changed_works at.tells w V b sound s unsent quiet F c values.0 values.1 broken r fin h.works
+works at (task.Give rights now) w V b sound s broken r it unread unsent still quiet values F fin h =
     give_works at.tells w V b s unsent quiet F rights now values broken r fin h.works
-works at (task.Settle rights now) w V b sound s broken r unread unsent still quiet values F fin h =
+works at (task.Settle rights now) w V b sound s broken r it unread unsent still quiet values F fin h =
     settle_works at.tells w V b sound s unsent quiet F rights now values.0 values.1 broken r fin h.works
-works at (task.SetMerchants rows now) w V b sound s broken r unread unsent still quiet values F fin h =
+works at (task.SetMerchants rows now) w V b sound s broken r it unread unsent still quiet values F fin h =
     set_works at.tells w V b sound s unsent quiet F rows now values broken r fin h.works
-works at (task.Sweep who now giver) w V b sound s broken r unread unsent still quiet values F fin h =
+works at (task.Sweep who now giver) w V b sound s broken r it unread unsent still quiet values F fin h =
     timed_sweep_works who now values.0 values.1 values.2 at.tells w V b sound s unsent quiet F giver broken
     r fin
     h.works
-works at (task.Batch who now digits) w V b sound s broken r unread unsent still quiet values F fin h =
+works at (task.Batch who now digits) w V b sound s broken r it unread unsent still quiet values F fin h =
     batch_works at.tells who now digits values.0 values.1 w V b s F r unread unsent quiet h.works
-works at (task.Pipe now digits) w V b sound s broken r unread unsent still quiet values F fin h =
+works at (task.Pipe now digits) w V b sound s broken r it unread unsent still quiet values F fin h =
     pipe_works at.tells now digits w V b s F r unread unsent still quiet h.works
-works at (task.Serve port connections lists) w V b sound s broken r unread unsent still quiet values F fin h =
-    listed_serve_works at w V b sound s unsent quiet F port connections lists values broken r fin h.works
-works at (task.Show it) w V b sound s broken r unread unsent still quiet values F fin h =
-    show_works at.tells w V b sound s unsent quiet F it broken r fin h.works
+works at (task.Serve port most lists) w V b sound s broken r it unread unsent still quiet values F fin h =
+    listed_serve_works at w V b sound s unsent quiet F port most lists values broken r fin h.works
+works at (task.Show shown) w V b sound s broken r it unread unsent still quiet values F fin h =
+    show_works at.tells w V b sound s unsent quiet F shown broken r fin h.works
 
 -- who finds no more finds what was found
 finds_less : (image next : Image) (Are : Trees → Type 0)
@@ -126,7 +129,7 @@ new_are_of image V c (inr blank) = inr (inr blank)
 
 -- a run that rests, and leaves bytes that are found as those before it
 rests : (next : Image) (it : Run) → Rests it → IsSpared it
-    → (it.ending ≡ ending.Done → AsksMove it.words → ⊥)
+    → (IsDone it.ending → AsksMove it.words → ⊥)
     → ((found : Trees) → MayFind next found → MayFind it.begins found) → IsRun it next
 rests next it calm free other less V c sound proper of = ∣ (
   inr (calm, record { newest = λ new. free; moving = λ are moves. free }),
@@ -180,7 +183,7 @@ module _ {D : Type 0} {g : Ghosts D} (world : World) (image next : Image) (momen
   stays_run : (left : FileStore D g) → Leaves image (Some left) next → (it : Run)
       → Rests it → (it.begins ≡ image)
       → ((V : Content) (c : Option Command) → Sound V → IfSome c IsProper → Spared V c it)
-      → (it.ending ≡ ending.Done → AsksMove it.words → ⊥) → Stays image left → IsFrom image it next
+      → (IsDone it.ending → AsksMove it.words → ⊥) → Stays image left → IsFrom image it next
   stays_run left may it calm same spared other stays V c sound proper of = ∣ (
     inr (calm, spared V c sound proper),
     record {
@@ -250,14 +253,15 @@ module _ {D : Type 0} {g : Ghosts D} (world : World) (image next : Image) (momen
 
   moved : (path : List ℕ) → world.holds path image → (left : FileStore D g) (told : Result ℤ FileFault)
       → IsMoved world path (Some left) told → Leaves image (Some left) next → (it : Run) → Rests it
-      → it.begins ≡ image → (unsent : Type 0) (old new : Known) (writer : Bool)
-      → TellsMoved told it.ending unsent old new writer → IsFrom image it next
-  moved path at left (Ok version) h may it calm same unsent old new writer tells =
+      → it.begins ≡ image → (was_empty : Bool) (unsent : Type 0) (old new : Known) (writer : Bool)
+      → TellsMoved was_empty told it.ending unsent old new writer → IsFrom image it next
+  moved path at left (Ok version) h may it calm same was_empty unsent old new writer tells =
       moves_run left may it calm
-      (λ why is. absurd (line_free schema_line it.ending old new writer tells why is)) (h image at)
-  moved path at left (Err why) h may it calm same unsent old new writer tells =
+      (λ why is. absurd (line_free schema_line was_empty note.Made it.ending old new writer tells why is))
+      (h image at)
+  moved path at left (Err why) h may it calm same was_empty unsent old new writer tells =
       stays_run left may it calm same (spared_move left may it why tells.0 same (h image at).0)
-      (λ d asks. absurd (cc (d, tells.0))) (h image at).2
+      (λ d asks. absurd (subst IsDone tells.0 d)) (h image at).2
 
   -- a check
   checks_run : (path : List ℕ) → world.holds path image → (left : FileStore D g)
@@ -265,10 +269,10 @@ module _ {D : Type 0} {g : Ghosts D} (world : World) (image next : Image) (momen
       → (it : Run) → Rests it → it.begins ≡ image → (AsksMove it.words → ⊥) → (log : Bool)
       (unsent : Type 0) (old new : Known) (writer : Bool)
       → TellsSizes log told it.ending unsent old new writer → IsFrom image it next
-  checks_run path at left (Ok sizes) h may it calm same other log unsent old new writer (line, ends, is) =
+  checks_run path at left (Ok sizes) h may it calm same other log unsent old new writer tells =
       stays_run left may it calm same
       (λ V c sound proper. let free : IsSpared it =
-      λ why refused. absurd (beside_free (sound_line sizes) log line it.ending old new writer ends is why
+      λ why refused. absurd (line_free (sound_line sizes) log note.Log it.ending old new writer tells why
       refused) in record { newest = λ new. free; moving = λ are asks. free })
       (λ d asks. absurd (other asks)) (h image at).2
   checks_run path at left (Err why) h may it calm same other log unsent old new writer tells =
@@ -297,7 +301,7 @@ module _ {D : Type 0} {g : Ghosts D} (world : World) (image next : Image) (momen
     -- a task that worked on the vault W comes to this
     work_on : (V : Content) (c : Option Command) (W : Content) → (W ≡ V) ⊎ (W ≡ perhaps V c)
         → Bear image W → (w : Passage)
-        → Works world.tells w W t (r.ending ≡ ending.Done) s
+        → Works world.tells w W t (IsDone r.ending) s
         → ((why : FileFault) → r.ending ≡ ending.NotOpened why → ⊥)
         → ((A B : Content) → w.left_new A B → KeepsEither next A B)
         → (it : Comes V c r) × Leads V c r it next
@@ -319,11 +323,12 @@ module _ {D : Type 0} {g : Ghosts D} (world : World) (image next : Image) (momen
         } in
         (inl done, record { of = inl (kept _ _ it.left); newest = λ how. inl (kept _ _ it.left) })
 
-    module _ (result : Result Outcome Stop) (unread unsent : Type 0) (still : unread → IsStill s)
-        (quiet : unsent → IsQuiet s) (fin : r.ending ≡ ending.Done → result ≡ Ok outcome.Done)
+    module _ (result : Result Outcome Stop) (it : Option TaskNote) (unread unsent : Type 0)
+        (still : unread → IsStill s)
+        (quiet : unsent → IsQuiet s) (fin : IsDone r.ending → result ≡ Ok outcome.Done)
         (free : (why : FileFault) → r.ending ≡ ending.NotOpened why → ⊥)
         (on : WorksOn (world.holds path) left
-        (λ p broken. Does (outside_in world) t p broken result unread unsent s)) where
+        (λ p broken. Does (outside_in world) t p broken result it unread unsent s)) where
       abbrev conn : Held (FileStore D g)
       conn = on.opened
 
@@ -351,10 +356,10 @@ module _ {D : Type 0} {g : Ghosts D} (world : World) (image next : Image) (momen
           → (it : Comes V c r) × Leads V c r it next
       on_one V c W is sound held holds =
           work_on V c W is held w
-          (works (outside_in world) t w W (may.0, (holds, sound)) sound s on.broken result unread unsent
+          (works (outside_in world) t w W (may.0, (holds, sound)) sound s on.broken result it unread unsent
           still quiet
           values
-          (r.ending ≡ ending.Done) fin on.done)
+          (IsDone r.ending) fin on.done)
           free
           (λ A B leaves. leaves next may.1)
 
@@ -389,22 +394,27 @@ module _ {D : Type 0} {g : Ghosts D} (world : World) (image next : Image) (momen
       where
         by_ending : (e : Ending) → end ≡ e
             → DoesOnFile (outside_in world) (world.holds path) left t e unread unsent s → IsFrom image r next
-        by_ending ending.Done is h = worked (Ok outcome.Done) unread unsent still quiet (λ _. refl)
+        by_ending ending.Done is h = worked (Ok outcome.Done) None unread unsent still quiet (λ _. refl)
+            (λ why d. absurd (cc (d, ends, is))) h
+        by_ending (ending.Noted note.Log) is h = absurd h
+        by_ending (ending.Noted note.Made) is h = absurd h
+        by_ending (ending.Noted (note.Task it)) is h =
+            worked (Ok outcome.Done) (Some it) unread unsent still quiet (λ _. refl)
             (λ why d. absurd (cc (d, ends, is))) h
         by_ending ending.Version is h = absurd h
-        by_ending ending.DoneWithLog is h = absurd h
         by_ending (ending.Refused n) is h =
-            worked (Ok (outcome.Refused n)) unread unsent still quiet (λ d. absurd (cc (d, ends, is)))
-            (λ why d. absurd (cc (d, ends, is))) h
+            worked (Ok (outcome.Refused n)) None unread unsent still quiet
+            (λ d. absurd (subst IsDone (ends ∙ is) d)) (λ why d. absurd (cc (d, ends, is))) h
+        by_ending (ending.Misnamed it) is h = absurd h
         by_ending ending.SomeRefused is h =
-            worked (Ok outcome.SomeRefused) unread unsent still quiet (λ d. absurd (cc (d, ends, is)))
-            (λ why d. absurd (cc (d, ends, is))) h
+            worked (Ok outcome.SomeRefused) None unread unsent still quiet
+            (λ d. absurd (subst IsDone (ends ∙ is) d)) (λ why d. absurd (cc (d, ends, is))) h
         by_ending ending.BadWords is h = absurd h
         by_ending (ending.NotOpened why) is h = stays_run left may r (calm why is (quiet h.2)) same
             (spared_open left may r why (ends ∙ is) same other (h.0.spared image at may.0))
             (λ d asks. absurd (other asks)) (h.0.stays image at)
         by_ending (ending.Stopped stop) is h =
-            worked (Err stop) unread unsent still quiet (λ d. absurd (cc (d, ends, is)))
+            worked (Err stop) None unread unsent still quiet (λ d. absurd (subst IsDone (ends ∙ is) d))
             (λ why d. absurd (cc (d, ends, is))) h
 
   -- a run whose words ask for a job with this plan
@@ -434,10 +444,11 @@ module _ {D : Type 0} {g : Ghosts D} (world : World) (image next : Image) (momen
   each (Some left) words job asked (plan.Migrate path) asks end s unread unsent still quiet values
       h at leaves =
       moved path.now at left h.1.0 h.1.1 leaves (run_of image moments words end s)
-      (inr (inr (job, asked, asks))) refl unsent s.sent_old s.sent_new s.writer h.1.2
+      (inr (inr (job, asked, asks))) refl h.1.2.0 unsent s.sent_old s.sent_new s.writer h.1.2.2
   each None words job asked (plan.Migrate path) asks end s unread unsent still quiet values h at leaves =
       let r : Run = run_of image moments words end s in
-      let free = none_moved g world h.1.0 path.now h.1.1 r unsent s.sent_old s.sent_new s.writer h.1.2 in
+      let free = none_moved g world h.1.0 path.now h.1.1 r h.1.2.0 unsent s.sent_old s.sent_new s.writer
+      h.1.2.2 in
       rests next r (inr (inr (job, asked, asks))) free.0 free.1 leaves
   each (Some left) words job asked (plan.Do path t) asks end s unread unsent still quiet values h at leaves =
       on_some path.now at left leaves t end s values (run_of image moments words end s)

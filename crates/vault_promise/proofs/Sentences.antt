@@ -34,6 +34,7 @@ use Rattle.clap.specs.Words.{IsAmong, Text}
 use Rattle.clap.specs.declared.error.kind.ErrorKind.TheVariants.{DisplayHelp}
 use Rattle.vault_app.specs.Plans.{EndsBefore, saying}
 use Rattle.vault_app.specs.World.{anything}
+use Rattle.vault_app.specs.Ending.{IsDone}
 use Rattle.vault_app.specs.declared.ending.Ending.{Ending}
 use Rattle.vault_app.specs.declared.ending.Ending.TheVariants as ending
 use Rattle.vault_promise.proofs.OneKind.{only_move, only_task}
@@ -321,17 +322,18 @@ answers_kept come rs end V sound of runs =
 
 -- ---- what is done is done whole
 
-early : (e : Ending) → e ≡ ending.Done → (r : Run) → AsksFor r.words (λ job. EndsBefore anything job e) → ⊥
-early e is r (job, asked, why) =
-    subst (λ (x : Ending). EndsBefore anything job x) is why
+early : (e : Ending) → IsDone e → (r : Run) → AsksFor r.words (λ job. EndsBefore anything job e) → ⊥
+early ending.Done is r (job, asked, why) = why
+early (ending.Noted it) is r (job, asked, why) = why
+early e is r asks = is
 
-rested : (r : Run) → Rests r → r.ending ≡ ending.Done → AsksHelp r.words ⊎ AsksFor r.words IsAside
+rested : (r : Run) → Rests r → IsDone r.ending → AsksHelp r.words ⊎ AsksFor r.words IsAside
 rested r (inl (inl (early_end, quiet))) done = absurd (early r.ending done r early_end)
 rested r (inl (inr (inl (inl (help, is), calm)))) done = inl help
-rested r (inl (inr (inl (inr (version, is, silent), calm)))) done = absurd (cc (is, done))
-rested r (inl (inr (inr (inl (none, is, calm, silent))))) done = absurd (cc (is, done))
-rested r (inl (inr (inr (inr (is, calm, silent))))) done = absurd (cc (is, done))
-rested r (inr (inl ((why, is), quiet))) done = absurd (cc (is, done))
+rested r (inl (inr (inl (inr (version, is, silent), calm)))) done = absurd (subst IsDone is done)
+rested r (inl (inr (inr (inl (none, is, calm, silent))))) done = absurd (subst IsDone is done)
+rested r (inl (inr (inr (inr (is, calm, silent))))) done = absurd (subst IsDone is done)
+rested r (inr (inl ((why, is), quiet))) done = absurd (subst IsDone is done)
 rested r (inr (inr aside)) done = inr aside
 
 none_asked : (words : List Text) → AsksTask words → AsksHelp words ⊎ AsksFor words IsAside → ⊥

@@ -1,4 +1,5 @@
--- What a task answered that makes rights those of a list, or only says what a vault holds.
+-- What a task answered that reads rights first: one that makes them those of a list, takes one away, or only
+-- says what a vault holds.
 use Rattle.std.proofs.Common.{◌≡◌, ℕ, Bool, true, false, cond, not, List, [], ◌∷◌, length}
 use Rattle.std.proofs.Common.{None, Result, Ok, Err, inl, inr, refl, sym, ap, subst, ◌∙◌}
 use Rattle.std.specs.FinMap as finmap
@@ -9,10 +10,11 @@ use Rattle.std.proofs.Math.Seq.{take-length}
 use Rattle.std.specs.Io.KnownBytes.{Appends}
 use Rattle.vault_core.proofs.Maps.{right_total}
 use Rattle.vault_core.specs.Name.{IsName}
-use Rattle.vault_core.specs.Proper.{AllProper}
+use Rattle.vault_core.specs.Proper.{AllProper, IsProper}
 use Rattle.vault_core.specs.Scalar.{IsMoment}
 use Rattle.vault_core.specs.Sound.{Sound}
 use Rattle.vault_core.specs.Vault.{Vault as Content}
+use Rattle.vault_core.specs.declared.command.Command.{Command}
 use Rattle.vault_engine.specs.Passing.{IsBefore, Passage}
 use Rattle.vault_listen.specs.Live.{Turns}
 use Rattle.vault_rights.specs.Named.{Row}
@@ -22,7 +24,7 @@ use Rattle.vault_store.specs.declared.vault.Fault.TheVariants.{Memory, Store, Re
 use Rattle.vault_changes.specs.Changes.{Held, changes_at, is_held, is_listed, missing_rows}
 use Rattle.vault_changes.specs.Changes.{rights_of, surplus_rights, withdrawals_at, settled_line}
 use Rattle.vault_changes.specs.Settling.{FailsToRead}
-use Rattle.vault_jobs.specs.Doing.{SettleEnds, ShowEnds}
+use Rattle.vault_jobs.specs.Doing.{ChangeEnds, SettleEnds, ShowEnds}
 use Rattle.vault_changes.specs.Grants.{grants_at}
 use Rattle.vault_jobs.specs.Listing.{shown_text}
 use Rattle.vault_jobs.specs.Streams.{Streams}
@@ -32,8 +34,9 @@ use Rattle.vault_jobs.specs.declared.stop.Stop.TheVariants as stop
 use Rattle.vault_jobs.specs.declared.task.Outcome.{Outcome as Ended}
 use Rattle.vault_jobs.specs.declared.task.Outcome.TheVariants as outcome
 use Rattle.vault_jobs.specs.declared.task.Task.TheVariants as task
+use Rattle.vault_app.specs.Values.{IsOwn}
 use Rattle.vault_promise.proofs.Proper.{proper-append}
-use Rattle.vault_promise.proofs.TaskAnswers.{Works, commands_works}
+use Rattle.vault_promise.proofs.TaskAnswers.{Works, change_works, commands_works}
 use Rattle.vault_promise.specs.Told.{IsQuiet, Tells}
 
 -- grants of some of the rows are proper where those of all are
@@ -106,6 +109,14 @@ module _ (tells : Turns) (w : Passage) (V : Content) (b : IsBefore w V) (sound :
     left = h V b;
   }
   unread_works t told never broken Reopen h = absurd h
+
+  pub changed_works : (c : Command) → IsOwn c → IsProper c → (broken : Bool) (r : Result Ended Stop)
+      → (F → r ≡ Ok outcome.Done)
+      → ChangeEnds c w broken r unsent s.sent_old s.sent_new s.writer → Works tells w V (task.Change c) F s
+  changed_works c own proper broken r fin (inl h) =
+      change_works tells w V b s unsent quiet F c own proper broken r fin h
+  changed_works c own proper broken r fin (inr (f, is, silent, h, some)) =
+      unread_works (task.Change c) (inl (quiet silent, (0, refl))) (λ d. cc (fin d, is)) broken f h
 
   pub settle_works : (rights : Vec Row) (now : ℕ) → IsMoment now → AllProper (grants_at now rights.items)
       → (broken : Bool) (r : Result Ended Stop) → (F → r ≡ Ok outcome.Done)

@@ -18,9 +18,10 @@ use Rattle.vault_app.specs.Plans.{EndsBefore}
 use Rattle.vault_app.specs.Saying.{IsTaskFor, OfCheck, OfMove, OfTask, OfTrial, Purpose}
 use Rattle.vault_app.specs.Asked.{Unasked, sound_line}
 use Rattle.vault_app.specs.World.{World}
-use Rattle.vault_app.specs.Endings.{LineEnds}
+use Rattle.vault_app.specs.Ending.{IsDone}
+use Rattle.vault_app.specs.Endings.{NotedLineEnds}
 use Rattle.vault_app.specs.Files.{LeavesAlone}
-use Rattle.vault_app.specs.Commands.Check.{TellsSizes, beside}
+use Rattle.vault_app.specs.Commands.Check.{TellsSizes}
 use Rattle.vault_app.specs.Commands.Migrate.{TellsMoved}
 use Rattle.vault_app.specs.Commands.Trial.{TrialEnds}
 use Rattle.vault_jobs.specs.declared.trial.Trial.{Trial}
@@ -31,6 +32,8 @@ use Rattle.vault_verdict.specs.declared.fault.OpenFault.TheVariants.{Memory}
 use Rattle.vault_verdict.specs.declared.sizes.Sizes.{Sizes}
 use Rattle.vault_app.specs.declared.ending.Ending.{Ending}
 use Rattle.vault_app.specs.declared.ending.Ending.TheVariants as ending
+use Rattle.vault_app.specs.declared.note.Note.{Note}
+use Rattle.vault_app.specs.declared.note.Note.TheVariants as note
 use Rattle.vault_promise.proofs.RunHistories.{perhaps_sound}
 use Rattle.vault_promise.specs.Runs.{AreNew, AsksMove, IsMoving, IsSpared, Run, perhaps}
 
@@ -67,33 +70,22 @@ no_memory = (
   λ same. let is : 32 ≡ 31 = same in absurd (omega (arith, is)),
 )
 
--- a line is written, or the writer failed
-pub line_free : (text : List ℕ) (e : Ending) (old new : Known) (writer : Bool)
-    → LineEnds text e old new writer → (why : FileFault) → e ≡ ending.NotOpened why → ⊥
-line_free text e old new writer h why is =
-    subst (λ (x : Ending). LineEnds text x old new writer) is h
-
-pub beside_free : (text : List ℕ) (log : Bool) (line e : Ending) (old new : Known) (writer : Bool)
-    → LineEnds text line old new writer → e ≡ beside log line → (why : FileFault)
-    → e ≡ ending.NotOpened why → ⊥
-beside_free text true ending.Done e old new writer h is why same = absurd (cc (is, same))
-beside_free text false ending.Done e old new writer h is why same = absurd (cc (is, same))
-beside_free text true (ending.Stopped s) e old new writer h is why same = absurd (cc (is, same))
-beside_free text false (ending.Stopped s) e old new writer h is why same = absurd (cc (is, same))
-beside_free text log ending.DoneWithLog e old new writer h is why same = h
-beside_free text log ending.Version e old new writer h is why same = h
-beside_free text log (ending.Refused n) e old new writer h is why same = h
-beside_free text log ending.SomeRefused e old new writer h is why same = h
-beside_free text log ending.BadWords e old new writer h is why same = h
-beside_free text log (ending.NotOpened f) e old new writer h is why same = h
+-- a line is written, with a note or none, or the writer failed
+pub line_free : (text : List ℕ) (noted : Bool) (of : Note) (e : Ending) (old new : Known) (writer : Bool)
+    → NotedLineEnds text noted of e old new writer → (why : FileFault) → e ≡ ending.NotOpened why → ⊥
+line_free text true of e old new writer (ending.Done, ends, is) why same = absurd (cc (is, same))
+line_free text false of e old new writer (ending.Done, ends, is) why same = absurd (cc (is, same))
+line_free text true of e old new writer (ending.Stopped s, ends, is) why same = absurd (cc (is, same))
+line_free text false of e old new writer (ending.Stopped s, ends, is) why same = absurd (cc (is, same))
+line_free text noted of e old new writer (line, ends, is) why same = ends
 
 -- and with no files left
 pub none_checked : {D : Type 0} (g : Ghosts D) (world : World) (told : Result Sizes FileFault)
     (path : List ℕ) → IsChecked {g = g} world path None told → (it : Run) (log : Bool) (unsent : Type 0)
     (old new : Known) (writer : Bool)
     → TellsSizes log told it.ending unsent old new writer → IsSpared it
-none_checked g world (Ok sizes) path h it log unsent old new writer (line, ends, is) =
-    λ why refused. absurd (beside_free (sound_line sizes) log line it.ending old new writer ends is why
+none_checked g world (Ok sizes) path h it log unsent old new writer tells =
+    λ why refused. absurd (line_free (sound_line sizes) log note.Log it.ending old new writer tells why
     refused)
 none_checked g world (Err why) path h it log unsent old new writer tells =
     spared_by it why tells.0 (elim h [
@@ -102,13 +94,13 @@ none_checked g world (Err why) path h it log unsent old new writer tells =
     ])
 
 pub none_moved : {D : Type 0} (g : Ghosts D) (world : World) (told : Result ℤ FileFault)
-    (path : List ℕ) → IsMoved {g = g} world path None told → (it : Run) (unsent : Type 0)
-    (old new : Known) (writer : Bool)
-    → TellsMoved told it.ending unsent old new writer
-    → IsSpared it × (it.ending ≡ ending.Done → AsksMove it.words → ⊥)
-none_moved g world (Ok version) path h it unsent old new writer tells = absurd h
-none_moved g world (Err why) path h it unsent old new writer tells =
-    (spared_by it why tells.0 (subst IsNoVerdict (sym h.0) itself), λ d asks. absurd (cc (d, tells.0)))
+    (path : List ℕ) → IsMoved {g = g} world path None told → (it : Run) (was_empty : Bool)
+    (unsent : Type 0) (old new : Known) (writer : Bool)
+    → TellsMoved was_empty told it.ending unsent old new writer
+    → IsSpared it × (IsDone it.ending → AsksMove it.words → ⊥)
+none_moved g world (Ok version) path h it was_empty unsent old new writer tells = absurd h
+none_moved g world (Err why) path h it was_empty unsent old new writer tells =
+    (spared_by it why tells.0 (subst IsNoVerdict (sym h.0) itself), λ d asks. subst IsDone tells.0 d)
 
 -- why a task left the files alone
 pub left_alone : (world : World) (path : List ℕ) (t : Task) (why : FileFault) → LeavesAlone world path t why
@@ -117,11 +109,16 @@ left_alone world path t why (inl refused) = subst IsNoVerdict (sym refused.0) it
 left_alone world path t why (inr starved) = subst IsNoVerdict (sym starved.0) no_memory
 
 -- endings before there is a plan, and those of a trial
+early_undone : (world : World) (job : Job) (e : Ending) → EndsBefore world job e → ¬ (IsDone e)
+early_undone world job ending.Done h d = h
+early_undone world job (ending.Noted it) h d = h
+early_undone world job e h d = d
+
 pub early_free : (world : World) (job : Job) (e : Ending) → EndsBefore world job e
-    → ((why : FileFault) → e ≡ ending.NotOpened why → ⊥) × (e ≡ ending.Done → ⊥)
+    → ((why : FileFault) → e ≡ ending.NotOpened why → ⊥) × (IsDone e → ⊥)
 early_free world job e h = (
   λ why is. subst (λ (x : Ending). EndsBefore world job x) is h,
-  λ is. subst (λ (x : Ending). EndsBefore world job x) is h,
+  early_undone world job e h,
 )
 
 pub trial_free : (world : World) (t : Trial) (e : Ending) (s : Streams) → TrialEnds world.tells t e s
@@ -130,14 +127,14 @@ trial_free world t e s h why is = subst (λ (x : Ending). TrialEnds world.tells 
 
 -- words that ask for no job end so
 pub unasked_free : (words : List Text) (e : Ending) (unread unsent : Type 0) → Unasked words e unread unsent
-    → ((why : FileFault) → e ≡ ending.NotOpened why → ⊥) × (e ≡ ending.Done → AsksMove words → ⊥)
+    → ((why : FileFault) → e ≡ ending.NotOpened why → ⊥) × (IsDone e → AsksMove words → ⊥)
 unasked_free words e unread unsent (inl (inl (help, is), calm)) = (
   λ why same. absurd (cc (is, same)),
   λ d moves. subst (IsAmong DisplayHelp) moves.1.taken help,
 )
 unasked_free words e unread unsent (inl (inr (version, is, silent), calm)) =
-    (λ why same. absurd (cc (is, same)), λ d moves. absurd (cc (is, d)))
+    (λ why same. absurd (cc (is, same)), λ d moves. subst IsDone is d)
 unasked_free words e unread unsent (inr (inl (none, is, calm, silent))) =
-    (λ why same. absurd (cc (is, same)), λ d moves. absurd (cc (is, d)))
+    (λ why same. absurd (cc (is, same)), λ d moves. subst IsDone is d)
 unasked_free words e unread unsent (inr (inr (is, calm, silent))) =
-    (λ why same. absurd (cc (is, same)), λ d moves. absurd (cc (is, d)))
+    (λ why same. absurd (cc (is, same)), λ d moves. subst IsDone is d)

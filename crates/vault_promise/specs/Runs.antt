@@ -34,10 +34,11 @@ use Rattle.vault_words.specs.declared.jobs.Job.{Job}
 use Rattle.vault_app.specs.Jobs.{RunsAs}
 use Rattle.vault_app.specs.Plans.{EndsPlanless, IsTaskOf, saying}
 use Rattle.vault_app.specs.Asked.{AsksFor}
+use Rattle.vault_app.specs.Ending.{IsDone}
 use Rattle.vault_app.specs.Saying.{IsBeside, OfMove, Purpose, path_of}
 use Rattle.vault_app.specs.World.{World, anything, world_of}
 use Rattle.vault_app.specs.declared.ending.Ending.{Ending}
-use Rattle.vault_app.specs.declared.ending.Ending.TheVariants.{Done, NotOpened}
+use Rattle.vault_app.specs.declared.ending.Ending.TheVariants.{NotOpened}
 use Rattle.vault_file.specs.declared.fault.NotOpened.{NotOpened as FileFault}
 use Rattle.vault_promise.specs.SoundHistories.{Lasts}
 use Rattle.vault_promise.specs.Told.{AllDone, IsNext, IsQuiet, Tells}
@@ -145,7 +146,7 @@ pub record Work (V : Content) (c : Option Command) (r : Run) : Type 0 where
   pub last_proper : IfSome undecided IsProper
   pub tells : Tells (told_by r.moments) task opened answered r.streams
   pub next : IfSome undecided (IsNext (told_by r.moments) task opened answered r.streams)
-  pub done : r.ending ≡ Done → AllDone task opened answered
+  pub done : IsDone r.ending → AllDone task opened answered
   pub opens : (why : FileFault) → ¬ (r.ending ≡ NotOpened why)
 
 -- it worked so, or it rests, and its file is spared
@@ -164,7 +165,7 @@ undecided_by V c r (inr rests) = c
 -- it worked; or it moved the file to the newest schema, and is done
 abbrev pub MakesNew : (V : Content) (c : Option Command) (r : Run) → Comes V c r → Type 0
 MakesNew V c r (inl w) = Unit {0}
-MakesNew V c r (inr rests) = (r.ending ≡ Done) × AsksMove r.words
+MakesNew V c r (inr rests) = IsDone r.ending × AsksMove r.words
 
 -- A run that comes to this leads on to these bytes: they are of the vault that it leaves, and in the newest
 -- schema where it makes them so, or found them so.

@@ -43,9 +43,9 @@ use Rattle.vault_jobs.specs.declared.task.Task.TheVariants.{Batch, Change, Give,
 use Rattle.vault_jobs.specs.declared.task.Task.TheVariants.{SetMerchants, Settle, Show, Sweep}
 use Rattle.clap.specs.Words.{Text}
 use Rattle.vault_app.specs.Asked.{AsksFor, AsksHelp}
+use Rattle.vault_app.specs.Ending.{IsDone}
 use Rattle.vault_app.specs.Plans.{IsTaskOf}
 use Rattle.vault_app.specs.World.{anything}
-use Rattle.vault_app.specs.declared.ending.Ending.TheVariants.{Done}
 use Rattle.vault_promise.specs.DueNumbers.{AsksForDue, IsAskedWhereDue, number_text}
 use Rattle.vault_promise.specs.Runs.{AreNew, AreOf, AsksMove, Bear, Come, IsAside, IsSpared, MakesNew, Run}
 use Rattle.vault_promise.specs.Runs.{Runs, Work, at_moments, before, history, kept_by, told_by, undecided_by}
@@ -343,10 +343,10 @@ AsksTask words = AsksFor words (λ job. (t : Task) × IsTaskOf anything job t)
 abbrev pub DidWhole : (V : Content) (c : Option Command) (rs : List Run) (end : Image) → Come V c rs end
     → Type 0
 DidWhole V c [] end come = Unit {0}
-DidWhole V c (r ∷ rs) end (inl w, more) = (r.ending ≡ Done → AllDone w.task w.opened w.answered)
+DidWhole V c (r ∷ rs) end (inl w, more) = (IsDone r.ending → AllDone w.task w.opened w.answered)
     × DidWhole (run w.answered w.opened) w.undecided rs end more
-DidWhole V c (r ∷ rs) end (inr rests, more) = (r.ending ≡ Done → AsksHelp r.words ⊎ AsksFor r.words IsAside)
-    × (r.ending ≡ Done → ¬ (AsksTask r.words)) × DidWhole V c rs end more
+DidWhole V c (r ∷ rs) end (inr rests, more) = (IsDone r.ending → AsksHelp r.words ⊎ AsksFor r.words IsAside)
+    × (IsDone r.ending → ¬ (AsksTask r.words)) × DidWhole V c rs end more
 
 abbrev pub DoneIsDone : Type 0
 DoneIsDone = OfAnyRuns (λ V rs end come. DidWhole V None rs end come)
@@ -393,7 +393,7 @@ MovesKeep V c [] end come = Unit {0}
 MovesKeep V c (r ∷ rs) end (inl w, more) =
     (¬ (AsksMove r.words)) × MovesKeep (run w.answered w.opened) w.undecided rs end more
 MovesKeep V c (r ∷ rs) end (inr rests, more) = AreOf (before rs end) V c
-    × ((r.ending ≡ Done) × AsksMove r.words → AreNew (before rs end) V c) × MovesKeep V c rs end more
+    × (IsDone r.ending × AsksMove r.words → AreNew (before rs end) V c) × MovesKeep V c rs end more
 
 abbrev pub MovesKeepTheVault : Type 0
 MovesKeepTheVault = OfAnyRuns (λ V rs end come. MovesKeep V None rs end come)

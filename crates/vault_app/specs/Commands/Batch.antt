@@ -5,6 +5,7 @@ use Rattle.vault_batch.specs.declared.asker.Asker.{Asker}
 use Rattle.vault_words.specs.declared.commands.batch.BatchJob.{BatchJob}
 use Rattle.vault_jobs.specs.declared.task.Task.{Task}
 use Rattle.vault_jobs.specs.declared.task.Task.TheVariants as task
+use Rattle.vault_app.specs.Asked.{MisnamesAsker}
 use Rattle.vault_app.specs.Saying.{OfTask, Saying, quiet}
 use Rattle.vault_app.specs.World.{World}
 
@@ -14,8 +15,8 @@ IsBatchOf j world t = (IsName j.caller.now × IsName j.merchant.now)
     × ((who : Asker) × (who.caller ≡ j.caller.now) × (who.merchant ≡ j.merchant.now)
     × (t ≡ task.Batch who j.now j.digits))
 
--- it is refused by 4 for a name that is none
+-- its caller or its merchant may be no name
 abbrev pub batch_says : BatchJob → Saying
 batch_says j = record (quiet (OfTask j.file (IsBatchOf j))) {
-  refused = λ world n. (n ≡ 4) × ¬ (IsName j.caller.now × IsName j.merchant.now);
+  misnamed = MisnamesAsker j.caller.now j.merchant.now;
 }

@@ -10,16 +10,17 @@ use Rattle.vault_jobs.specs.declared.task.Task.{Task}
 use Rattle.vault_jobs.specs.declared.task.Task.TheVariants as task
 use Rattle.vault_app.specs.Saying.{OfTask, Saying, quiet}
 use Rattle.vault_app.specs.World.{World}
+use Rattle.vault_app.specs.declared.placeholder.Placeholder.TheVariants.{Name}
 
 -- the merchant is set, at the moment that the words fix, or else at one that was told
 abbrev pub IsSettingOf : MerchantJob → World → Task → Type 0
 IsSettingOf j world t = IsName j.name.now × ((now : ℕ) × IsMomentOf world.tells j.now now
     × (t ≡ task.Change (setting j.name.now (lives_asked j now))))
 
--- it is refused by 4 for a name that is none
+-- its name may be none
 abbrev pub merchant_says : MerchantJob → Saying
 merchant_says j = record (quiet (OfTask j.file (IsSettingOf j))) {
   lives = IsLife j.single_life × IsLife j.multi_life;
-  refused = λ world n. (n ≡ 4) × ¬ (IsName j.name.now);
+  misnamed = λ placeholder. (placeholder ≡ Name) × ¬ (IsName j.name.now);
   needs_moment = j.now ≡ None;
 }

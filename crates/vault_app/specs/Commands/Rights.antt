@@ -8,7 +8,7 @@ use Rattle.vault_words.specs.declared.commands.rights.RightJob.{RightJob}
 use Rattle.vault_jobs.specs.Moments.{IsMomentOf}
 use Rattle.vault_jobs.specs.declared.task.Task.{Task}
 use Rattle.vault_jobs.specs.declared.task.Task.TheVariants as task
-use Rattle.vault_app.specs.Asked.{AreNames, IsMisnamed}
+use Rattle.vault_app.specs.Asked.{AreNames, MisnamesRight}
 use Rattle.vault_app.specs.Saying.{OfTask, Saying, quiet}
 use Rattle.vault_app.specs.World.{World}
 
@@ -19,10 +19,10 @@ IsGrantOf j world t = AreNames j.given
     × IsMomentOf world.tells j.given.now now
     × (t ≡ task.Change (command.Grant j.given.caller.now j.given.merchant.now right j.until now)))
 
--- it is refused by 4 for a name that is none, and by 71 for a right that is none
+-- its caller or its merchant may be no name, or its word no right
 abbrev pub grant_says : GrantJob → Saying
 grant_says j = record (quiet (OfTask j.given.file (IsGrantOf j))) {
-  refused = λ world n. IsMisnamed j.given n;
+  misnamed = MisnamesRight j.given;
   needs_moment = j.given.now ≡ None;
 }
 
@@ -32,9 +32,9 @@ IsWithdrawalOf j world t = AreNames j
     × ((right : Right) × (now : ℕ) × (j.right.now ≡ right_word right) × IsMomentOf world.tells j.now now
     × (t ≡ task.Change (command.Withdraw j.caller.now j.merchant.now right now)))
 
--- it is refused as a grant is
+-- its words may be none as those of a grant
 abbrev pub withdraw_says : RightJob → Saying
 withdraw_says j = record (quiet (OfTask j.file (IsWithdrawalOf j))) {
-  refused = λ world n. IsMisnamed j n;
+  misnamed = MisnamesRight j;
   needs_moment = j.now ≡ None;
 }

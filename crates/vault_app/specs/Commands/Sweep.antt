@@ -6,6 +6,7 @@ use Rattle.vault_words.specs.declared.commands.sweep.SweepJob.{SweepJob}
 use Rattle.vault_jobs.specs.Moments.{IsMomentOf, giver_of}
 use Rattle.vault_jobs.specs.declared.task.Task.{Task}
 use Rattle.vault_jobs.specs.declared.task.Task.TheVariants as task
+use Rattle.vault_app.specs.Asked.{MisnamesAsker}
 use Rattle.vault_app.specs.Saying.{OfTask, Saying, quiet}
 use Rattle.vault_app.specs.World.{World}
 
@@ -15,9 +16,9 @@ IsSweepOf j world t = (IsName j.caller.now × IsName j.merchant.now)
     × ((who : Asker) × (now : ℕ) × (who.caller ≡ j.caller.now) × (who.merchant ≡ j.merchant.now)
     × IsMomentOf world.tells j.now now × (t ≡ task.Sweep who now (giver_of j.now)))
 
--- it is refused by 4 for a name that is none
+-- its caller or its merchant may be no name
 abbrev pub sweep_says : SweepJob → Saying
 sweep_says j = record (quiet (OfTask j.file (IsSweepOf j))) {
-  refused = λ world n. (n ≡ 4) × ¬ (IsName j.caller.now × IsName j.merchant.now);
+  misnamed = MisnamesAsker j.caller.now j.merchant.now;
   needs_moment = j.now ≡ None;
 }

@@ -1,6 +1,5 @@
 -- `trial`: messages answered by a vault in memory.
 use Rattle.std.specs.Prelude.{◌≡◌, ◌≢◌, None, false}
-use Rattle.vault_core.specs.Name.{IsName}
 use Rattle.vault_core.specs.Scalar.{IsLife}
 use Rattle.vault_engine.specs.declared.stop.Stop.{Stop as ServeFault}
 use Rattle.vault_engine.specs.declared.stop.Stop.TheVariants as service
@@ -12,6 +11,7 @@ use Rattle.vault_jobs.specs.Streams.{Streams}
 use Rattle.vault_jobs.specs.Trial as memory
 use Rattle.vault_jobs.specs.declared.stop.Stop.TheVariants as stop
 use Rattle.vault_jobs.specs.declared.trial.Trial.{Trial as Asked}
+use Rattle.vault_app.specs.Asked.{MisnamesAsker}
 use Rattle.vault_app.specs.Endings.{EndsSo, no_ending}
 use Rattle.vault_app.specs.Saying.{OfTrial, Saying, quiet}
 use Rattle.vault_app.specs.World.{World}
@@ -26,11 +26,11 @@ pub record IsTrialOf (world : World) (j : TrialJob) (t : Asked) : Type 0 where
   pub moment : t.moment ≡ j.now
   pub digits : t.digits ≡ j.digits
 
--- it is refused by 4 for a name that is none
+-- its caller or its merchant may be no name
 abbrev pub trial_says : TrialJob → Saying
 trial_says j = record (quiet (OfTrial (λ world t. IsTrialOf world j t))) {
   lives = IsLife j.life;
-  refused = λ world n. (n ≡ 4) × ¬ (IsName j.caller.now × IsName j.merchant.now);
+  misnamed = MisnamesAsker j.caller.now j.merchant.now;
   needs_moment = j.now ≡ None;
 }
 

@@ -23,6 +23,6 @@ pub(crate) fn task(job: &BatchJob<'_>) -> Result<Task, Ending>
             let (now, digits) = (fixed_moment(job.now), fixed_digits(job.digits));
             Ok(Task::Batch(asker, now, digits))
         }
-        Err(number) => Err(Ending::Refused(number)),
+        Err(placeholder) => Err(Ending::Misnamed(placeholder)),
     }
 }

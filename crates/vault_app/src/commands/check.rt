@@ -1,25 +1,16 @@
 //! `check`: the whole check of a file.
 ghost use Rattle.std.specs.Prelude.{◌≡◌};
 ghost use Rattle.vault_wire.specs.Watching.{inner_of, is_stopped};
-ghost use Rattle.vault_app.specs.Commands.Check.{TellsSizes, beside};
+ghost use Rattle.vault_app.specs.Commands.Check.{TellsSizes};
 
 use crate::ending::Ending;
-use crate::line::end_with;
+use crate::line::{end_beside, end_with};
+use crate::note::Note;
 use itoa::Buffer;
 use std::io::Write;
 use vault_file::fault::NotOpened;
 use vault_verdict::sizes::Sizes;
 use vault_wire::watched::Watched;
-
-/// The end of a check, by that of its line.
-fn end_beside(has_log: bool, line: Ending) -> Ending
-    ensures { result ≡ beside has_log line }
-{
-    match line {
-        Ending::Done if has_log => Ending::DoneWithLog,
-        ended => ended,
-    }
-}
 
 /// Says how many merchants, entries and records a file's vault has, and ends as the file has a log or none.
 /// Or it ends as the file isn't opened.
@@ -50,5 +41,5 @@ pub(crate) fn tell_sizes<W: Write>(
             "\n",
         ],
     );
-    end_beside(has_log, line)
+    end_beside(line, has_log, Note::Log)
 }

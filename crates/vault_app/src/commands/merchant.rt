@@ -7,12 +7,12 @@ ghost use Rattle.vault_app.specs.Plans.{ComesToTask};
 ghost use Rattle.vault_app.specs.Values.{AreValues};
 
 use crate::ending::Ending;
+use crate::placeholder::Placeholder;
 use vault_core::command::Command;
 use vault_core::name::MerchantId;
 use vault_jobs::clock::moment;
 use vault_jobs::task::Task;
 use vault_listen::time::Timekeeper;
-use vault_refusal::refusal::Refusal;
 use vault_words::commands::merchant::MerchantJob;
 
 /// A merchant is set. Refused by 4 where the name is none, and when it is done by 18 where there are as many
@@ -28,7 +28,7 @@ pub(crate) fn task<K: Timekeeper>(time: &K, job: &MerchantJob<'_>) -> Result<Tas
     ensures proper { IfOk result AreValues }
 {
     let Ok(merchant) = MerchantId::read(job.name.as_bytes()) else {
-        return Err(Ending::Refused(Refusal::BadName.number()));
+        return Err(Ending::Misnamed(Placeholder::Name));
     };
     let now = match moment(time, job.now) {
         Ok(now) => now,

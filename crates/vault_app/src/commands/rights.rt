@@ -4,10 +4,11 @@ ghost use Rattle.vault_core.specs.Words.{right_word};
 ghost use Rattle.vault_words.specs.declared.jobs.Job.{Job};
 ghost use Rattle.vault_app.specs.World.{told};
 ghost use Rattle.vault_app.specs.Plans.{ComesToTask};
-ghost use Rattle.vault_app.specs.Asked.{AreNames, IsMisnamed};
+ghost use Rattle.vault_app.specs.Asked.{AreNames, MisnamesRight};
 ghost use Rattle.vault_app.specs.Values.{AreValues};
 
 use crate::ending::Ending;
+use crate::placeholder::Placeholder;
 use crate::typed::fixed_moment;
 use vault_core::command::Command;
 use vault_core::name::{Caller, MerchantId};
@@ -15,7 +16,6 @@ use vault_core::right::Right;
 use vault_jobs::clock::moment;
 use vault_jobs::task::Task;
 use vault_listen::time::Timekeeper;
-use vault_refusal::refusal::Refusal;
 use vault_words::commands::rights::{GrantJob, RightJob};
 
 /// Whose right at which merchant.
@@ -26,23 +26,23 @@ struct Entitlement {
     right: Right,
 }
 
-/// The names and the right of the words, or the number of their refusal.
-fn read(job: &RightJob<'_>) -> Result<Entitlement, u8>
-    // with Ok both names are names; Err is 4 where one isn't, and else 71 where the word is no right's
-    ensures names { MatchResult result (λ _. AreNames job.entry.now) (IsMisnamed job.entry.now) }
+/// The names and the right of the words, or the placeholder of the first that is none.
+fn read(job: &RightJob<'_>) -> Result<Entitlement, Placeholder>
+    // with Ok both names are names; Err is the placeholder of the first that isn't, and else of the right
+    ensures names { MatchResult result (λ _. AreNames job.entry.now) (MisnamesRight job.entry.now) }
     // with Ok, the names and the right are those of the words
     ensures value { IfOk result (λ asked. (asked.caller ≡ job.entry.now.caller.now)
         × (asked.merchant ≡ job.entry.now.merchant.now)
         × (job.entry.now.right.now ≡ right_word asked.right)) }
 {
     let Ok(caller) = Caller::read(job.caller.as_bytes()) else {
-        return Err(Refusal::BadName.number());
+        return Err(Placeholder::Caller);
     };
     let Ok(merchant) = MerchantId::read(job.merchant.as_bytes()) else {
-        return Err(Refusal::BadName.number());
+        return Err(Placeholder::Merchant);
     };
     let Some(right) = Right::read(job.right.as_bytes()) else {
-        return Err(Refusal::UnknownRight.number());
+        return Err(Placeholder::Right);
     };
     Ok(Entitlement {
         caller,
@@ -61,7 +61,7 @@ pub(crate) fn grant<K: Timekeeper>(time: &K, job: &GrantJob<'_>) -> Result<Task,
 {
     let asked = match read(&job.given) {
         Ok(asked) => asked,
-        Err(number) => return Err(Ending::Refused(number)),
+        Err(placeholder) => return Err(Ending::Misnamed(placeholder)),
     };
     let now = match moment(time, job.given.now) {
         Ok(now) => now,
@@ -85,7 +85,7 @@ pub(crate) fn withdraw<K: Timekeeper>(time: &K, job: &RightJob<'_>) -> Result<Ta
 {
     let asked = match read(job) {
         Ok(asked) => asked,
-        Err(number) => return Err(Ending::Refused(number)),
+        Err(placeholder) => return Err(Ending::Misnamed(placeholder)),
     };
     let now = match moment(time, job.now) {
         Ok(now) => now,

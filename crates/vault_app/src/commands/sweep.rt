@@ -23,7 +23,7 @@ pub(crate) fn task<K: Timekeeper>(time: &K, job: &SweepJob<'_>) -> Result<Task, 
 {
     let asker = match asker_of(job.caller, job.merchant) {
         Ok(asker) => asker,
-        Err(number) => return Err(Ending::Refused(number)),
+        Err(placeholder) => return Err(Ending::Misnamed(placeholder)),
     };
     match moment(time, job.now) {
         Ok(now) => Ok(Task::Sweep(asker, now, Giver::of(job.now))),

@@ -9,13 +9,13 @@ ghost use Rattle.vault_app.specs.Plans.{EndsBefore};
 ghost use Rattle.vault_app.specs.Commands.Trial.{IsTrialOf, TrialEnds};
 
 use crate::ending::Ending;
+use crate::placeholder::Placeholder;
 use std::io::{Read, Write};
 use vault_core::name::{Caller, MerchantId};
 use vault_jobs::clock::moment;
 use vault_jobs::stop::Stop;
 use vault_jobs::trial::{Trial, serve_trial};
 use vault_listen::time::Timekeeper;
-use vault_refusal::refusal::Refusal;
 use vault_wire::watched::Watched;
 use vault_words::commands::trial::TrialJob;
 
@@ -30,10 +30,10 @@ pub(crate) fn plan<K: Timekeeper>(time: &K, job: &TrialJob<'_>) -> Result<Trial,
     ensures life { IfOk result (λ trial. IsLife trial.life) }
 {
     let Ok(caller) = Caller::read(job.caller.as_bytes()) else {
-        return Err(Ending::Refused(Refusal::BadName.number()));
+        return Err(Ending::Misnamed(Placeholder::Caller));
     };
     let Ok(merchant) = MerchantId::read(job.merchant.as_bytes()) else {
-        return Err(Ending::Refused(Refusal::BadName.number()));
+        return Err(Ending::Misnamed(Placeholder::Merchant));
     };
     let made = match moment(time, job.now) {
         Ok(made) => made,

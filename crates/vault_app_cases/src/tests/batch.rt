@@ -128,8 +128,20 @@ fn what_is_no_batch_is_stopped_after_the_rows_before_it(rt: HostRuntime) {
 
 /// A batch by a name that is none is refused before the file.
 const MISNAMED: [Step; 2] = [
-    ("vault batch FILE Till shop1", TWO, 1, "refused 4\n", ""),
-    ("vault batch FILE till-1 shop_1", TWO, 1, "refused 4\n", ""),
+    (
+        "vault batch FILE Till shop1",
+        TWO,
+        1,
+        "refused 4\n",
+        "vault: CALLER is no name\n",
+    ),
+    (
+        "vault batch FILE till-1 shop_1",
+        TWO,
+        1,
+        "refused 4\n",
+        "vault: MERCHANT is no name\n",
+    ),
 ];
 
 #[test]

@@ -158,7 +158,8 @@ fn a_token_is_shown_with_its_merchants_lead(rt: HostRuntime) {
 }
 
 /// A file is made in the newest schema, and stays in it.
-const MIGRATED: &str = "vault migrate FILE = schema 4
+const MIGRATED: &str = "vault migrate FILE = schema 4 ! \
+     vault: there was no vault in FILE, and an empty one is made
 vault migrate FILE = schema 4";
 
 /// It is an empty vault.
@@ -171,13 +172,35 @@ fn a_new_file_has_the_newest_schema(rt: HostRuntime) {
     assert!(rt; end_so(&rt, file, &EMPTY));
 }
 
+#[test]
+fn a_file_without_a_byte_is_made_and_that_is_said(rt: HostRuntime) {
+    let file = "app_blank/vault.db";
+    assert!(rt; is_folder_made(&rt, "app_blank") && fs::write(&rt, file, "").is_ok());
+    assert!(rt; are_said(&rt, file, MIGRATED));
+}
+
+/// A right that isn't there is withdrawn, which is said; one that is there is withdrawn once.
+const WITHDRAWN: &str = "vault merchant FILE shop1 60 0 = done
+vault grant FILE till-1 shop1 view = done
+vault withdraw FILE till-2 shop1 view = done ! vault: there was nothing to withdraw
+vault withdraw FILE till-1 shop1 audit = done ! vault: there was nothing to withdraw
+vault withdraw FILE till-1 shop1 view = done
+vault withdraw FILE till-1 shop1 view = done ! vault: there was nothing to withdraw";
+
+#[test]
+fn a_right_that_is_not_there_is_withdrawn_and_that_is_said(rt: HostRuntime) {
+    let file = "app_withdrawn/vault.db";
+    assert!(rt; is_folder_made(&rt, "app_withdrawn") && are_said(&rt, file, WITHDRAWN));
+}
+
 /// Names and rights that are refused before the file.
-const MISNAMED: [&str; 5] = [
-    "vault grant FILE Till shop1 view = refused 4",
-    "vault grant FILE till Shop1 view = refused 4",
-    "vault grant FILE till shop1 veiw = refused 71",
-    "vault withdraw FILE till  view = refused 4",
-    "vault merchant FILE Shop1 60 0 = refused 4",
+const MISNAMED: [&str; 6] = [
+    "vault grant FILE Till shop1 view = refused 4 ! vault: CALLER is no name",
+    "vault grant FILE till Shop1 view = refused 4 ! vault: MERCHANT is no name",
+    "vault grant FILE till shop1 veiw = refused 71 ! vault: RIGHT is no right",
+    "vault grant FILE till Shop1 veiw = refused 4 ! vault: MERCHANT is no name",
+    "vault withdraw FILE till  view = refused 4 ! vault: MERCHANT is no name",
+    "vault merchant FILE Shop1 60 0 = refused 4 ! vault: NAME is no name",
 ];
 
 #[test]

@@ -173,15 +173,25 @@ pub fn are_done(rt: &HostRuntime, file: &str, lines: &'static str) -> bool {
     true
 }
 
-/// Whether a run of these words on this file says this, with status 1 where it is a refusal.
-fn is_said(rt: &HostRuntime, file: &str, words: &str, said: &str) -> bool {
-    let alloc = rt.alloc();
-    let output = format!(in alloc; "{said}\n").unwrap_or(String::new(alloc));
-    let status = if said.starts_with("refused ") { 1 } else { 0 };
-    run_on(rt, words, file, b"").is(status, output.as_str(), "")
+/// A line's text with its end; nothing, where there is none.
+fn ended(alloc: Global, line: &str) -> String {
+    if line.is_empty() {
+        return String::new(alloc);
+    }
+    format!(in alloc; "{line}\n").unwrap_or(String::new(alloc))
 }
 
-/// Whether each run of these lines on this file says what stands behind ` = `; one that doesn't is printed.
+/// Whether a run of these words on this file says this, with status 1 where it is a refusal, and on the
+/// errors what stands behind ` ! `.
+fn is_said(rt: &HostRuntime, file: &str, words: &str, said: &str) -> bool {
+    let (said, noted) = said.split_once(" ! ").unwrap_or((said, ""));
+    let (output, errors) = (ended(rt.alloc(), said), ended(rt.alloc(), noted));
+    let status = if said.starts_with("refused ") { 1 } else { 0 };
+    run_on(rt, words, file, b"").is(status, output.as_str(), errors.as_str())
+}
+
+/// Whether each run of these lines on this file says what stands behind ` = `, and on the errors what stands
+/// behind ` ! `; one that doesn't is printed.
 pub fn are_said(rt: &HostRuntime, file: &str, lines: &str) -> bool {
     for line in lines.lines() {
         let (words, said) = line.split_once(" = ").unwrap_or((line, ""));

@@ -90,7 +90,7 @@ fn dead_tokens_are_purged_and_a_live_one_gives_its_number(rt: HostRuntime) {
 const UNSWEPT: &str = "vault sweep --now 1070 FILE guest shop1 = refused 8
 vault sweep --now 1070 FILE back shop1 = purged 3
 vault sweep --now 1070 FILE guest shop1 = purged 0
-vault sweep --now 1070 FILE back shop2 = purged 0";
+vault sweep --now 1070 FILE back shop2 = purged 0 ! vault: there is no such merchant";
 
 #[test]
 fn a_sweep_without_the_right_is_refused_and_purges_nothing(rt: HostRuntime) {
@@ -99,9 +99,36 @@ fn a_sweep_without_the_right_is_refused_and_purges_nothing(rt: HostRuntime) {
     assert!(rt; are_said(&rt, file, UNSWEPT));
 }
 
+/// A sweep by the clock is told that the clock is far ahead of the shop, whose moment it moves then.
+const FAR: &str =
+    "vault sweep --now 2679420 FILE back shop2 = purged 0 ! vault: there is no such merchant
+vault sweep FILE back shop2 = purged 0 ! vault: there is no such merchant
+vault sweep FILE back shop1 = purged 3 ! \
+     vault: the clock is more than 31 days ahead of the merchant's last moment
+vault sweep FILE back shop1 = purged 0";
+
+#[test]
+fn a_sweep_by_a_clock_far_ahead_of_the_shop_says_so(rt: HostRuntime) {
+    let file = "app_far/vault.db";
+    assert!(rt; is_shop_made(&rt, "app_far", file));
+    assert!(rt; are_said(&rt, file, FAR));
+}
+
+/// One at a moment of the words isn't.
+const FIXED: &str = "vault sweep --now 4000000 FILE back shop1 = purged 3";
+
+#[test]
+fn a_sweep_at_a_fixed_moment_says_nothing_of_the_clock(rt: HostRuntime) {
+    let file = "app_fixed/vault.db";
+    assert!(rt; is_shop_made(&rt, "app_fixed", file));
+    assert!(rt; are_said(&rt, file, FIXED));
+}
+
 /// A sweep with a bad name is refused before the file.
-const MISNAMED: &str = "vault sweep --now 1000 FILE Back shop1 = refused 4
-vault sweep --now 1000 FILE back  = refused 4";
+const MISNAMED: &str =
+    "vault sweep --now 1000 FILE Back shop1 = refused 4 ! vault: CALLER is no name
+vault sweep --now 1000 FILE back  = refused 4 ! vault: MERCHANT is no name
+vault sweep --now 1000 FILE Back  = refused 4 ! vault: CALLER is no name";
 
 #[test]
 fn a_sweep_with_a_bad_name_is_refused_before_the_file(rt: HostRuntime) {

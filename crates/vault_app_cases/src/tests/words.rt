@@ -48,7 +48,7 @@ const MISNAMED: [Step; 1] = [(
     "",
     1,
     "refused 4\n",
-    "",
+    "vault: CALLER is no name\n",
 )];
 
 #[test]

@@ -119,7 +119,7 @@ fn granted(rt: &HostRuntime, vault: &mut Vault<MemTables>, text: &str) -> Option
     };
     let mut output = Vec::new(rt.alloc());
     match outcome(rt, vault, &Task::Give(rows, now), &mut output) {
-        Some(Outcome::Done) => Some(output),
+        Some((Outcome::Done, None)) => Some(output),
         _ => None,
     }
 }

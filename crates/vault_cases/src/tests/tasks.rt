@@ -4,6 +4,7 @@ ghost use Rattle.vault_jobs.specs.Tasks.{IsProper};
 use super::clocks::TestClock;
 use super::desks::TestDesk;
 use super::fakes::{TestReader, TestWriter};
+use vault_jobs::note::Note;
 use vault_jobs::task::{Outcome, Task, do_task};
 use vault_listen::network::Loopback;
 use vault_listen::peer::Limits;
@@ -12,14 +13,14 @@ use vault_store::memory::MemTables;
 use vault_store::vault::Vault;
 use vault_wire::watched::Watched;
 
-/// How a task ends by a clock that stands at 1000, where its output goes here; none where it isn't begun or
-/// stops. All tasks of the tests go through here, so that they are compiled once.
+/// How a task ends by a clock that stands at 1000, and what is noted of it, where its output goes here; none
+/// where it isn't begun or stops. All tasks of the tests go through here, so that they are compiled once.
 pub fn outcome(
     rt: &HostRuntime,
     vault: &mut Vault<MemTables>,
     task: &Task,
     output: &mut Vec<u8>,
-) -> Option<Outcome>
+) -> Option<(Outcome, Option<Note>)>
     requires { IsProper task.now }
 {
     if vault.broken() {
@@ -41,7 +42,7 @@ pub fn outcome(
         &mut reader,
         &mut writer,
     ) {
-        Ok(outcome) => Some(outcome),
-        Err(_) => None,
+        (Ok(outcome), note) => Some((outcome, note)),
+        (Err(_), _) => None,
     }
 }

@@ -81,10 +81,12 @@ returns g c =
         it.1,
         subst (λ e. EndsOnFile world c.args.path.now (Some left) c.args.task.now e unread unsent s)
             (sym c.ending_of.ensures)
-            (ended world c.args.path.now unread unsent s left c.args.task.now c.do_task-outcome.result
+            (ended world c.args.path.now unread unsent s left c.args.task.now c.do_task-outcome.result.0
+            c.do_task-outcome.result.1
             (works (λ t. t.conn) (λ t. t.failed) (λ t V. IsPast t.place V) (outside_in world)
             (world.holds c.args.path.now) c.in-Ok.vault
-            c.do_task-outcome.new.vault left c.args.task.now c.do_task-outcome.result
+            c.do_task-outcome.new.vault left c.args.task.now c.do_task-outcome.result.0
+            c.do_task-outcome.result.1
             (is_broken c.do_task-outcome.new.vault) unread unsent s c.in-Ok.ensures.found
             (fresh.1.0, λ V. subst (λ place. IsPast place V) (sym fresh.1.1) tt)
             c.do_task-outcome.ensures.disk_honest

@@ -1,9 +1,34 @@
 use Rattle.std.proofs.Common.{ℕ, List, ◌++◌, ◌∙◌, ap, append-nil, codes, refl, subst}
 use Rattle.vault_wire.specs.Watching.{inner_of, is_stopped}
-use Rattle.vault_app.specs.Ending.{stop_line}
+use Rattle.vault_app.specs.Ending.{refusal_line, stop_line}
 use Rattle.vault_refusal.specs.Refusal.{number_of}
 use Rattle.vault_live.specs.Told.{Tells}
 use Rattle.vault_app.proofs.report.report.Goals as goal
+
+pub returns-in-Noted-clause-said : goal.returns-in-Noted-clause-said
+returns-in-Noted-clause-said g c =
+    let old = g.E.Write.contents (inner_of c.args.errors.now) in
+    let told = c.tell.new.writer in
+    let new = g.E.Write.contents (inner_of told) in
+    rw c.in-Noted.is (
+      refl,
+      subst (λ (t : List ℕ). Tells old new (is_stopped told) t)
+          (append-nil c.line.result.now ∙ c.line.ensures) c.tell.ensures,
+    )
+
+pub returns-in-Misnamed-clause-said : goal.returns-in-Misnamed-clause-said
+returns-in-Misnamed-clause-said g c =
+    let sent = c.tell_numbered-in-Misnamed.new.writer in
+    let old = g.E.Write.contents (inner_of c.args.errors.now) in
+    let told = c.tell-in-Misnamed.new.writer in
+    let new = g.E.Write.contents (inner_of told) in
+    rw c.in-Misnamed.is (
+      subst (λ (n : ℕ). Tells (g.W.Write.contents (inner_of c.args.output.now))
+          (g.W.Write.contents (inner_of sent)) (is_stopped sent) (refusal_line n)) c.number.ensures
+          c.tell_numbered-in-Misnamed.ensures,
+      subst (λ (t : List ℕ). Tells old new (is_stopped told) t)
+          (append-nil c.line-in-Misnamed.result.now ∙ c.line-in-Misnamed.ensures) c.tell-in-Misnamed.ensures,
+    )
 
 pub returns-in-Stopped-clause-said : goal.returns-in-Stopped-clause-said
 returns-in-Stopped-clause-said g c =
@@ -12,7 +37,7 @@ returns-in-Stopped-clause-said g c =
     rw c.in-Stopped.is (
       refl,
       subst (λ (n : ℕ). Tells old new c.tell_numbered-in-Stopped.new.writer.stopped (stop_line n))
-          (c.number.ensures ∙ ap number_of c.refusal.ensures) c.tell_numbered-in-Stopped.ensures,
+          (c.number-in-Stopped.ensures ∙ ap number_of c.refusal.ensures) c.tell_numbered-in-Stopped.ensures,
     )
 
 pub returns-in-BadWords-clause-said : goal.returns-in-BadWords-clause-said

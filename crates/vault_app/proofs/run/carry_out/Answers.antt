@@ -45,8 +45,14 @@ returns-in-Migrate g c =
     let is = moved world c.in-Migrate.path.now c.migrate_file-moved.result.1 c.migrate_file-moved.result.0
     told.refused told.refused_there told.moved told.left told.tells told.stays told.same told.same_unmoved in
     rw c.in-Migrate.is (record {
-      does = unlinked (g.N.Network.tells c.args.network.now) _
-          (refl, (c.migrate_file-moved.result.0, is, c.tell_moved.ensures));
+      does = unlinked (g.N.Network.tells c.args.network.now) _ (
+        refl,
+        (
+          c.migrate_file-moved.result.0,
+          is,
+          (c.has_no_vault-was_empty.result, c.has_no_vault-was_empty.ensures, c.tell_moved.ensures),
+        ),
+      );
     })
 
 pub returns-in-Do : goal.returns-in-Do

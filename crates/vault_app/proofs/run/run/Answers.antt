@@ -2,7 +2,7 @@ use Rattle.std.proofs.Common.{◌≡◌, ◌⊎◌, ℕ, inl, inr, subst, sym, �
 use Rattle.vault_words.specs.Why.{HasFewDigits}
 use Rattle.vault_app.specs.Ending.{status_of}
 use Rattle.vault_app.specs.declared.ending.Ending.{Ending}
-use Rattle.vault_app.proofs.Checked.{logged_at}
+use Rattle.vault_app.proofs.Errors.{misnamed_at, noted_at}
 use Rattle.vault_app.proofs.Unread.{calm_at, refused_at, said_at}
 use Rattle.vault_app.proofs.run.run.Goals as goal
 
@@ -43,5 +43,9 @@ returns-clause-unread_refused g c = λ one. refused_at _ _ _ _ _ _ c.ended-endin
     (sym c.report.ensures.status ∙ one) c.ended-ending.ensures.does.2
 
 pub returns-clause-silent_done : goal.returns-clause-silent_done
-returns-clause-silent_done g c = λ zero. logged_at _ _ _ _ _ _ c.ended-ending.result.0 _ _ _ _ _
+returns-clause-silent_done g c = λ zero. noted_at _ _ _ _ _ _ c.ended-ending.result.0 _ _ _ _ _
     (sym c.report.ensures.status ∙ zero) c.ended-ending.ensures.does.2 c.report.ensures.said
+
+pub returns-clause-silent : goal.returns-clause-silent
+returns-clause-silent g c = λ one. misnamed_at _ _ _ _ _ _ c.ended-ending.result.0 _ _ _ _ _
+    (sym c.report.ensures.status ∙ one) c.ended-ending.ensures.does.2 c.report.ensures.said

@@ -8,7 +8,8 @@ use Rattle.vault_jobs.proofs.task.do_task.Goals as goal
 pub returns-in-Change-clause-does : goal.returns-in-Change-clause-does
 returns-in-Change-clause-does g c =
     rw c.in-Change.is (unlinked (g.N.Network.tells c.args.network.now) _
-    (change_done c.in-Change.command refl refl c.do_change.ensures.breaks c.do_change.ensures.does))
+    (change_done c.in-Change.command c.do_change.result.1 refl refl c.do_change.ensures.breaks
+    c.do_change.ensures.noted c.do_change.ensures.does))
 
 pub returns-in-Give-clause-does : goal.returns-in-Give-clause-does
 returns-in-Give-clause-does g c =
@@ -19,25 +20,26 @@ returns-in-Give-clause-does g c =
 pub returns-in-Sweep-clause-does : goal.returns-in-Sweep-clause-does
 returns-in-Sweep-clause-does g c =
     rw c.in-Sweep.is (unlinked (g.N.Network.tells c.args.network.now) _
-    (sweep_done c.in-Sweep.asker c.in-Sweep.now c.in-Sweep.giver refl refl c.do_sweep.ensures.breaks
-    c.do_sweep.ensures.swept))
+    (sweep_done c.in-Sweep.asker c.in-Sweep.now c.in-Sweep.giver c.do_sweep.result.1 refl refl
+    c.do_sweep.ensures.breaks c.do_sweep.ensures.noted c.do_sweep.ensures.swept))
 
 pub returns-in-Batch-clause-does : goal.returns-in-Batch-clause-does
 returns-in-Batch-clause-does g c =
     rw c.in-Batch.is (unlinked (g.N.Network.tells c.args.network.now) _
-    (task_done c.do_batch.ensures.does tt refl c.do_batch.ensures.caused c.do_batch.ensures.breaks))
+    (task_done (λ V. refl) c.do_batch-ended.ensures.does tt refl c.do_batch-ended.ensures.caused
+    c.do_batch-ended.ensures.breaks))
 
 pub returns-in-Pipe-clause-does : goal.returns-in-Pipe-clause-does
 returns-in-Pipe-clause-does g c =
     rw c.in-Pipe.is (unlinked (g.N.Network.tells c.args.network.now) _
-    (task_done c.do_pipe.ensures.does tt refl c.do_pipe.ensures.caused c.do_pipe.ensures.breaks))
+    (task_done (λ V. refl) c.do_pipe.ensures.does tt refl c.do_pipe.ensures.caused c.do_pipe.ensures.breaks))
 
 pub returns-in-Serve-clause-does : goal.returns-in-Serve-clause-does
 returns-in-Serve-clause-does g c = rw c.in-Serve.is (
-  c.serve_lists.ensures.does.0,
-  c.serve_lists.ensures.does.1,
-  serve_done c.in-Serve.port c.in-Serve.connections c.in-Serve.lists refl c.serve_lists.ensures.breaks
-      c.serve_lists.ensures.does.2,
+  c.serve_lists-ended.ensures.does.0,
+  c.serve_lists-ended.ensures.does.1,
+  serve_done c.in-Serve.port c.in-Serve.connections c.in-Serve.lists refl c.serve_lists-ended.ensures.breaks
+      c.serve_lists-ended.ensures.does.2,
 )
 
 pub returns-in-Settle-clause-does : goal.returns-in-Settle-clause-does

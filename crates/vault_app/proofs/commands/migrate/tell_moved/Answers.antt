@@ -9,10 +9,13 @@ pub returns : goal.returns
 unfolding digits
 returns g c =
     let old = g.W.Write.contents c.args.output.now.inner in
-    let new = g.W.Write.contents c.end_with.new.output.inner in
+    let new = g.W.Write.contents c.end_with-line.new.output.inner in
     let last : c.in-Ok.version ≡ number_of newest = rw c.in-Ok.is at c.requires in
     let written : c.format.result.now ≡ signed_decimal (number_of newest) =
     c.format.ensures.text ∙ ap (λ (z : ℤ). signed_decimal (to_z w64 (of_z w64 z))) last in
-    rw c.in-Ok.is (subst
-    (λ (text : List ℕ). LineEnds (codes "schema " ++ text ++ codes "\n") c.end_with.result old new
-    c.end_with.new.output.stopped) written c.end_with.ensures)
+    rw c.in-Ok.is (
+      c.end_with-line.result,
+      subst (λ (text : List ℕ). LineEnds (codes "schema " ++ text ++ codes "\n") c.end_with-line.result old
+          new c.end_with-line.new.output.stopped) written c.end_with-line.ensures,
+      c.end_beside.ensures,
+    )
