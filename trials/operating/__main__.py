@@ -21,6 +21,7 @@ SAYS = {
         *(r"^done$", ""),
         r"^merchant shop1 single 86400 .*\nright back shop1 detokenize[\s\S]*^sound 1 0 0$",
         r"^grant till-2 shop1 tokenize\nrights granted 1 withdrawn 0 at [0-9]+$",
+        "",
         r"^merchants set 1 at [0-9]+$",
     ),
     "Who may connect": ("",),
