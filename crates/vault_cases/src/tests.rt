@@ -17,7 +17,6 @@ mod intake;
 mod live;
 mod merchants;
 mod messages;
-mod offices;
 mod refused;
 mod rights;
 mod routes;

@@ -1,9 +1,63 @@
 //! A rights file that changes while it is followed, by looks a second apart.
 use super::clocks::TestClock;
 use super::desks::TestDesk;
-use super::offices::{TestLists, say_in_turns};
+use super::fakes::{TestReader, TestWriter};
 use super::shops::shop;
+use rand::SeedableRng;
+use rand::rngs::StdRng;
 use std::alloc::{AllocError, Global};
+use std::cell::Cell;
+use std::time::Duration;
+use vault_http::fault::ServeFault;
+use vault_http::served::Served;
+use vault_listen::fault::ListenFault;
+use vault_listen::peers::{Accepted, Peers};
+use vault_listen::time::ClockTime;
+use vault_live::both::{Both, BothKept};
+use vault_live::maybe::Maybe;
+use vault_live::merchants::MerchantsList;
+use vault_live::remembered::Remembered;
+use vault_live::rights::RightsList;
+use vault_live::turns::serve_turns;
+use vault_wire::watched::Watched;
+
+/// Nobody waits so many times, and then one can't be accepted.
+#[derive(Drop)]
+pub struct NobodyWaits {
+    pub left: Cell<usize>,
+}
+
+impl Peers for NobodyWaits {
+    ghost use Rattle.std.specs.Prelude.{List};
+    ghost use Rattle.vault_listen.specs.Peers.{Event};
+
+    type Reader = TestReader<'static>;
+
+    type Writer = TestWriter<'static>;
+
+    ghost tells = { λ _ _. Unit {0} };
+
+    fn waits(&self, _most: Duration) -> bool {
+        let left = self.left.get();
+        self.left.set(left.saturating_sub(1));
+        left == 0
+    }
+
+    fn accept(
+        &mut self,
+    ) -> Result<Option<Accepted<TestReader<'static>, TestWriter<'static>>>, ListenFault> {
+        Err(ListenFault::Accept)
+    }
+
+    fn close(
+        &mut self,
+        _reader: Watched<TestReader<'static>>,
+        _writer: Watched<TestWriter<'static>>,
+        _ended: Result<Served, ServeFault>,
+    )
+        ensures { (log : List Event) → Unit {0} }
+    {}
+}
 
 /// A shop with one caller, who has one right.
 const SHOP: &str = "set shop1 60 0 1000 = done
@@ -99,14 +153,30 @@ const CASES: [Case; 17] = [
 fn said(rt: &HostRuntime, began: &str, texts: &[&str], output: &mut Vec<u8>) {
     let alloc = rt.alloc();
     let mut vault = shop(alloc, SHOP);
+    if vault.broken() {
+        return;
+    }
     let clock = TestClock::stepping(1);
+    let time = ClockTime::new(&clock);
     let desk = TestDesk::new(alloc, texts);
-    let lists = TestLists {
-        merchants: None,
-        rights: Some((began, &desk)),
-        sweeps: None,
+    let office = RightsList::new(alloc, &desk, "rights.toml");
+    let mut kept = Remembered::new(began.as_bytes());
+    let mut peers = NobodyWaits {
+        left: Cell::new(texts.len().saturating_sub(1)),
     };
-    say_in_turns(alloc, &mut vault, &clock, &lists, texts.len(), output);
+    let mut generator = StdRng::seed_from_u64(7);
+    let mut writer = Watched::new(TestWriter::Whole(output));
+    let _ = serve_turns(
+        alloc,
+        &time,
+        &mut generator,
+        &mut peers,
+        &office,
+        &mut kept,
+        1,
+        &mut vault,
+        &mut writer,
+    );
 }
 
 /// Lists of merchants.
@@ -192,15 +262,41 @@ const BOTH_CASES: [BothCase; 10] = [
 fn said_of_both(rt: &HostRuntime, case: &BothCase, output: &mut Vec<u8>) {
     let alloc = rt.alloc();
     let mut vault = shop(alloc, SHOP);
+    if vault.broken() {
+        return;
+    }
     let clock = TestClock::stepping(1);
+    let time = ClockTime::new(&clock);
     let shops = TestDesk::new(alloc, case.1);
     let rights = TestDesk::new(alloc, case.2);
-    let lists = TestLists {
-        merchants: Some((case.0, &shops)),
-        rights: Some((FIRST, &rights)),
-        sweeps: None,
+    let office = Both {
+        first: Maybe {
+            office: Some(MerchantsList::new(alloc, &shops, "merchants.toml")),
+        },
+        second: Maybe {
+            office: Some(RightsList::new(alloc, &rights, "rights.toml")),
+        },
     };
-    say_in_turns(alloc, &mut vault, &clock, &lists, case.1.len(), output);
+    let mut kept = BothKept {
+        first: Remembered::new(case.0.as_bytes()),
+        second: Remembered::new(FIRST.as_bytes()),
+    };
+    let mut peers = NobodyWaits {
+        left: Cell::new(case.1.len().saturating_sub(1)),
+    };
+    let mut generator = StdRng::seed_from_u64(7);
+    let mut writer = Watched::new(TestWriter::Whole(output));
+    let _ = serve_turns(
+        alloc,
+        &time,
+        &mut generator,
+        &mut peers,
+        &office,
+        &mut kept,
+        1,
+        &mut vault,
+        &mut writer,
+    );
 }
 
 #[test]

@@ -1,12 +1,20 @@
 //! Dead tokens of a vault in memory, purged between two connections by whom a list of merchants names.
 use super::clocks::TestClock;
 use super::desks::TestDesk;
-use super::offices::{TestLists, say_in_turns};
+use super::fakes::TestWriter;
+use super::follows::NobodyWaits;
 use super::shops::shop;
+use rand::SeedableRng;
+use rand::rngs::StdRng;
+use std::cell::Cell;
+use vault_listen::time::ClockTime;
+use vault_live::sweeps::{Sweeps, Swept};
+use vault_live::turns::serve_turns;
 use vault_merchants::read::read_merchants;
 use vault_script::case::wrong;
 use vault_store::memory::MemTables;
 use vault_store::vault::Vault;
+use vault_wire::watched::Watched;
 
 /// Three tokens, made at 1000, 1010 and 1020 and each live for 60 seconds. A guest has no right.
 const THREE: &str = "open till-1 shop1 60 0 1000 = done
@@ -173,17 +181,33 @@ fn swept_by(
     texts: &[&str],
     output: &mut Vec<u8>,
 ) {
+    if vault.broken() {
+        return;
+    }
     let alloc = rt.alloc();
     let Ok(rows) = read_merchants(alloc, began.as_bytes()) else {
         return;
     };
+    let time = ClockTime::new(clock);
     let desk = TestDesk::new(alloc, texts);
-    let lists = TestLists {
-        merchants: None,
-        rights: None,
-        sweeps: Some(((began, &desk), rows.as_slice())),
+    let office = Sweeps::new(alloc, &desk, "merchants.toml", rows.as_slice());
+    let mut kept = Swept::new(began.as_bytes());
+    let mut peers = NobodyWaits {
+        left: Cell::new(texts.len().saturating_sub(1)),
     };
-    say_in_turns(alloc, vault, clock, &lists, texts.len(), output);
+    let mut generator = StdRng::seed_from_u64(7);
+    let mut writer = Watched::new(TestWriter::Whole(output));
+    let _ = serve_turns(
+        alloc,
+        &time,
+        &mut generator,
+        &mut peers,
+        &office,
+        &mut kept,
+        1,
+        vault,
+        &mut writer,
+    );
 }
 
 #[test]
