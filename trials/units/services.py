@@ -82,5 +82,5 @@ systemctl is-active vault-watch@vault.service
     step("one that never answers is started again", silent, "vault.service: is silent", seconds=180)
     ends = awaited('[ "$(systemctl show -p ActiveState --value vault-watch@vault.service)" = inactive ]', 30)
     step("the watch ends with its service", "systemctl stop vault\n" + ends, "", seconds=60)
-    begins = "systemctl start vault; systemctl is-active vault-watch@vault.service"
+    begins = "systemctl start vault\n" + awaited("systemctl is-active vault-watch@vault.service", 10)
     step("and begins with it", begins, "^active$")
