@@ -41,6 +41,7 @@ try outages.sh
 for script in followed front haproxy office exporter logs batch spread; do
     try "$script.sh"
 done
+try wrong.sh
 echo
 echo '| Trial | Passed | Failed | Seconds |'
 echo '|---|---|---|---|'

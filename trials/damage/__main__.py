@@ -1,4 +1,4 @@
-"""Runs the three parts of the trial: damage PROGRAM [all]."""
+"""Runs the five parts of the trial: damage PROGRAM [all]."""
 
 import os
 import pathlib
@@ -6,7 +6,7 @@ import random
 import sys
 import tempfile
 
-from damage import changes, damaged, wrong_messages
+from damage import bounds, changes, damaged, missing, wrong_messages
 from shared.masked import MaskedTally
 
 
@@ -18,6 +18,10 @@ def main(program, every):
         folder = pathlib.Path(name)
         changes.try_all(program, folder, tally)
         tally.show("changed by SQL")
+        bounds.try_all(program, folder, tally)
+        tally.show("at the bounds of rules")
+        missing.try_all(program, folder, tally)
+        tally.show("without a table")
         damaged.try_all(program, folder, tally, random.Random(seed), every)
         wrong_messages.try_all(program, folder, tally)
         tally.show("messages through a service")

@@ -3,14 +3,16 @@
 from damage import base, rows, rules
 from shared.files import copied
 from shared.runs import run, side_by_side
-from shared.schemas import FOREIGN
+from shared.schemas import FOREIGN, tables
 
 FIRST = "'0000000000001111'"
-SECOND = "'1111111111111111'"
+# The columns of rights without an end, and what makes the table of counts.
+WITHOUT_END = tables(1).split("CREATE TABLE rights (")[1].split(") STRICT")[0]
+COUNTS = next(it for it in tables(1).splitlines() if "TABLE counts" in it).removesuffix(";")
 
 # What `check` has to say, and a change that it is said of.
 CHANGES = (
-    ("31 1", "INSERT INTO vault VALUES (2, 2)"),
+    ("31 1", "INSERT INTO vault VALUES (2, 4)"),
     ("31 1", "DELETE FROM vault"),
     ("31 1", "UPDATE vault SET id = 2"),
     ("31 1", "INSERT INTO merchants VALUES ('shop1', 60, 100, 1000)"),
@@ -26,6 +28,7 @@ CHANGES = (
     ("31 3", "UPDATE merchants3 SET moment = 253402300800"),
     ("31 3", "INSERT INTO merchants3 VALUES ('shop2', 0, 0, -1, 6)"),
     ("31 4", "UPDATE counts SET kind = 4"),
+    ("31 4", "DELETE FROM merchants3"),
     ("31 4", "INSERT INTO counts VALUES ('shop1', 2, 0)"),
     ("31 4", "INSERT INTO counts VALUES ('shop1', 3, 4611686018427387904)"),
     ("31 4", "INSERT INTO counts VALUES ('shop2', 2, 1)"),
@@ -48,6 +51,7 @@ CHANGES = (
     ("31 10", "UPDATE counts SET total = 3"),
     ("31 10", "UPDATE counts SET kind = 2"),
     ("31 10", "DELETE FROM counts"),
+    ("31 10", "UPDATE counts SET total = 3; UPDATE records SET usage = 2 WHERE request = 7"),
     ("31 10", f"DELETE FROM entries2 WHERE token = {FIRST}"),
     ("31 11", "UPDATE records SET usage = 2 WHERE request = 7"),
     ("31 11", "UPDATE records SET caller = 'Till-1' WHERE request = 7"),
@@ -62,9 +66,13 @@ CHANGES = (
     ("31 13", "INSERT INTO cards2 VALUES (9, 'shop1', '4222222222222', 0)"),
     ("31 13", "INSERT INTO cards2 VALUES (9, 'shop2', '4222222222222', 1)"),
     ("31 13", f"UPDATE entries2 SET card = 9 WHERE token = {FIRST}"),
+    ("31 13", f"UPDATE entries2 SET card = card + 1 WHERE token = {FIRST}"),
     ("31 13", "DELETE FROM cards2"),
+    ("31 13", "UPDATE cards2 SET merchant = 'shop2'"),
     ("31 14", "UPDATE merchants3 SET lead_digits = 7"),
     ("31 14", "UPDATE merchants3 SET lead_digits = 0"),
+    ("31 14", "INSERT INTO merchants3 VALUES ('shop2', 60, 0, 1000, 7)"),
+    ("31 14", "UPDATE merchants3 SET lead_digits = 7; UPDATE rights4 SET ends = -1"),
     ("31 15", "UPDATE rights4 SET ends = -1"),
     ("31 15", "UPDATE rights4 SET ends = 253402300800"),
     ("sound 1 2 2", "UPDATE rights4 SET ends = 0"),
@@ -74,10 +82,20 @@ CHANGES = (
     ("sound 1 2 2", "INSERT INTO counts VALUES ('shop1', 2, 4611686018427387903)"),
     ("sound 1 2 1", "DELETE FROM records WHERE request = 7"),
     ("sound 1 2 2", "DELETE FROM rights4"),
+    ("30 3", "UPDATE vault SET version = 3"),
     ("30 5", "UPDATE vault SET version = 5"),
-    ("30 0", "DROP TABLE records"),
-    ("30 0", FOREIGN),
+    ("30 -1", "UPDATE vault SET version = -1"),
+    ("30 1", f"UPDATE vault SET version = 1; {FOREIGN}"),
+    ("30 1", "UPDATE vault SET version = 1; DROP INDEX entries_number; DROP TABLE merchants"),
     ("30 5", "UPDATE vault SET version = 5; DROP TABLE records"),
+    ("30 0", "DELETE FROM vault; DROP TABLE rights"),
+    ("30 0", FOREIGN),
+    ("30 0", "CREATE INDEX by_token ON records (token)"),
+    ("30 0", "DROP INDEX entries2_card"),
+    ("33", f"DROP TABLE rights; CREATE TABLE RIGHTS ({WITHOUT_END}) STRICT"),
+    ("33", f"DROP TABLE rights4; CREATE TABLE rights4 ({WITHOUT_END}) STRICT"),
+    # the table stands behind the others then
+    ("33", f"DROP TABLE counts; {COUNTS}"),
     ("33", "VACUUM"),
 )
 
@@ -88,10 +106,13 @@ def said(ran):
 
 
 def fault_of(program, file, wanted):
-    """What is wrong with what `check` says of a changed file."""
+    """What is wrong with what `check` says of a changed file, and with whether it opens."""
     ran = run(program, "check", file)
     if ran.broke or said(ran) != wanted:
         return f"wanted {wanted}, but came {ran}"
+    opened = run(program, "pipe", file)
+    if said(opened) != ("" if wanted.startswith("sound") else wanted):
+        return f"a check says {wanted}, but opened it is {opened}"
     ruled = rules.least_broken(found) if (found := rows.read(file)) else None
     if wanted.startswith("31 ") and ruled != int(wanted[3:]):
         return f"the trial's own rules say {ruled}, and the program {wanted}"

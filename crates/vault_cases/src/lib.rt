@@ -1,4 +1,4 @@
-//! Worked cases of messages, routes, connections and batches; of words, rights files, jobs and services. This
+//! Worked cases of messages, connections and batches; of words, lists and new files. This
 //! crate holds tests alone, so that each takes the libraries as they are proved.
 #![tactic(auto)]
 

@@ -4,7 +4,6 @@ mod decisions;
 mod names;
 mod numbers;
 mod questions;
-mod rules;
 mod vaults;
 
 /// Whether the lines of a case were all answered as they say; what was told in place of that is printed.

@@ -29,14 +29,12 @@ vault grant --now 1000 FILE till-1 shop1 tokenize";
 /// What a check says on the errors of a file with a log.
 pub const HAS_LOG: &str = "vault: the file has a log, FILE-wal, and a copy needs both\n";
 
-/// The words of a line, with a space between two, with this file in place of `FILE`, and with a space in the
-/// name `shop_1`.
+/// The words of a line, with a space between two, and with this file in place of `FILE`.
 pub fn words_of<'a>(alloc: Global, line: &'a str, file: &'a str) -> Vec<&'a str> {
     let mut words = Vec::new(alloc);
     for word in line.split(' ') {
         let _ = words.push(match word {
             "FILE" => file,
-            "shop_1" => "shop 1",
             word => word,
         });
     }

@@ -1,10 +1,7 @@
-//! Vaults over databases: worked cases, stops, and files that were changed.
-mod changed;
+//! Vaults over databases: worked cases, stops, and files of older schemas.
 mod fresh;
-mod missing;
 mod moved;
 mod over;
-mod paths;
 mod rows;
 mod sent;
 mod sent_again;

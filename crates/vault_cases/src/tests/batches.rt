@@ -1,17 +1,17 @@
-//! Batches over a vault in memory: who asks, what is asked, and what is answered byte for byte.
-mod refusals;
-mod scripts;
+//! Batches over a vault in memory, by readers, writers, sources and stores of the tests' own.
+mod sources;
+mod stores;
 mod streams;
 
-use super::fakes::{TestReader, TestWriter};
-use super::shops::source;
-use std::alloc::{AllocError, Global};
+use std::alloc::Global;
 use vault_batch::batch::batch;
 use vault_batch::counts::Counts;
 use vault_batch::fault::BatchFault;
 use vault_core::name::{Caller, MerchantId};
 use vault_core::source::{FixedSource, Source};
 use vault_script::case::filled;
+use vault_script::fakes::{TestReader, TestWriter};
+use vault_script::shops::source;
 use vault_store::tables::Tables;
 use vault_store::vault::Vault;
 use vault_wire::watched::Watched;
@@ -67,6 +67,12 @@ fn is_told(ended: Ended, wanted: Told) -> bool {
 const OPENED: &str = "set shop1 60 0 1000 = done
 grant till-1 shop1 tokenize 1000 = done";
 
+/// `till-1` at `shop1`.
+fn asker() -> Option<(Caller, MerchantId)> {
+    let caller = Caller::read(b"till-1").ok()?;
+    Some((caller, MerchantId::read(b"shop1").ok()?))
+}
+
 /// Runs a batch of `till-1` at `shop1`.
 fn run<T: Tables>(
     alloc: Global,
@@ -75,10 +81,8 @@ fn run<T: Tables>(
     vault: &mut Vault<T>,
     source: FixedSource,
 ) -> Ended {
-    let caller = Caller::read(b"till-1").ok()?;
-    let merchant = MerchantId::read(b"shop1").ok()?;
-    let mut reader = Watched::new(reader);
-    let mut writer = Watched::new(writer);
+    let (mut reader, mut writer) = (Watched::new(reader), Watched::new(writer));
+    let (caller, merchant) = asker()?;
     let mut left = source;
     let ended = batch(
         alloc,
@@ -97,17 +101,4 @@ fn run_new(alloc: Global, reader: TestReader<'_>, writer: TestWriter<'_>, pairs:
     let mut vault = filled(alloc, OPENED)?;
     let source = source(1000, 0, pairs)?;
     run(alloc, reader, writer, &mut vault, source)
-}
-
-/// Whether a batch at a shop of its own ends so, and gives these lines.
-fn ends(alloc: Global, asked: &[u8], wanted: Told, lines: &str) -> bool {
-    let mut output = Vec::new(alloc);
-    let (reader, writer) = (TestReader::Bytes(asked), TestWriter::Whole(&mut output));
-    let ended = run_new(alloc, reader, writer, 100);
-    is_told(ended, wanted) && output.as_slice() == lines.as_bytes()
-}
-
-/// The first line, and these after it.
-fn lines_of(alloc: Global, lines: &str) -> Result<String, AllocError> {
-    format!(in alloc; "request,answer,detail\n{lines}")
 }

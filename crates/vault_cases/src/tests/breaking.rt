@@ -1,8 +1,8 @@
 //! What changes nothing is answered also where nothing can be written.
-use crate::tests::shops::shop;
-use crate::tests::stuck::Stuck;
 use std::alloc::Global;
 use vault_script::case::wrong;
+use vault_script::shops::shop;
+use vault_script::stuck::Stuck;
 use vault_store::tables::Tables;
 use vault_store::vault::Vault;
 

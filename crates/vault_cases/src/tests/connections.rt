@@ -1,28 +1,20 @@
-//! Connections over a vault in memory: who asks, what is asked, and what is answered byte for byte.
+//! Connections over a vault in memory, by readers, writers and sources of the tests' own.
 mod forty;
-mod longest;
-mod refusals;
-mod scripts;
+mod sources;
 mod streams;
-mod worked;
 
-use super::fakes::{TestReader, TestWriter};
-use super::shops::source;
-use std::alloc::{AllocError, Global};
+use std::alloc::Global;
 use vault_core::source::FixedSource;
 use vault_http::fault::ServeFault;
 use vault_http::serve::serve;
 use vault_http::served::Served;
 use vault_script::case::filled;
+use vault_script::fakes::{TestReader, TestWriter};
 use vault_script::forty::SHOP;
-use vault_script::worked::answer;
+use vault_script::shops::source;
 use vault_store::memory::MemTables;
 use vault_store::vault::Vault;
-use vault_wire::fault::WireFault;
 use vault_wire::watched::Watched;
-
-/// The field of an answer after which the connection closes.
-const CLOSING: &str = "Connection: close\r\n";
 
 /// Serves a connection to its end.
 fn connect(
@@ -48,29 +40,4 @@ fn connect_new(
     let mut vault = filled(alloc, SHOP)?;
     let source = source(1000, 0, pairs)?;
     Some(connect(alloc, reader, writer, &mut vault, source))
-}
-
-/// Whether a connection to a shop of its own is answered so many messages and this fault, by these bytes.
-fn ends(
-    alloc: Global,
-    asked: &[u8],
-    messages: u64,
-    fault: Option<WireFault>,
-    answered: &str,
-) -> bool {
-    let mut output = Vec::new(alloc);
-    let (reader, writer) = (TestReader::Bytes(asked), TestWriter::Whole(&mut output));
-    let ended = connect_new(alloc, reader, writer, 1000);
-    ended == Some(Ok(Served { messages, fault })) && output.as_slice() == answered.as_bytes()
-}
-
-/// A message of this method and target by `till-1`, without a body.
-fn message(alloc: Global, request: &str) -> Result<String, AllocError> {
-    format!(in alloc; "{request} HTTP/1.1\r\nX-Vault-Caller: till-1\r\n\r\n")
-}
-
-/// The answer of a refusal by this number.
-fn refusal(alloc: Global, status: &str, fields: &str, number: u8) -> Result<String, AllocError> {
-    let body = format!(in alloc; "{{\"refused\":{number}}}")?;
-    answer(alloc, status, fields, body.as_str())
 }

@@ -1,9 +1,9 @@
 //! Readers and writers that are watched for their first failure.
-use super::fakes::{TestReader, TestWriter, WriteFailure};
 use std::alloc::Global;
 use std::cell::Cell;
 use std::io;
 use std::io::{ErrorKind, Read, Write};
+use vault_script::fakes::{TestReader, TestWriter, WriteFailure};
 use vault_wire::send::send;
 use vault_wire::watched::Watched;
 

@@ -1,5 +1,4 @@
 //! Files without a table, files of another program, and files that are opened again.
-use super::changed::NOTES;
 use super::over::Step;
 use super::steps::are_told;
 
@@ -47,6 +46,9 @@ fn a_vault_is_found_again(rt: HostRuntime) {
     let wanted = "answered; sound 1 1 1; answered; changed; answered; ";
     assert!(rt; are_told(&rt, FOUND.as_slice(), wanted));
 }
+
+/// A table of another program.
+const NOTES: &str = "CREATE TABLE notes (line TEXT)";
 
 /// A table of another program is made, and dropped.
 const FOREIGN: [Step<'static>; 5] = [

@@ -11,7 +11,7 @@ use vault_schema::v1::{
 use vault_schema::{v2, v3};
 
 /// What makes the tables of schema 1.
-pub const FIRST_TABLES: [&str; 7] = [
+const FIRST_TABLES: [&str; 7] = [
     CREATE_VAULT,
     CREATE_MERCHANTS,
     CREATE_COUNTS,
@@ -42,7 +42,7 @@ const MADE: [Step<'static>; 3] = [Step::Change(ROWS), Step::Check, Step::Ask("")
 const REFUSED: &str = "changed; 30 1; 30 1; ";
 
 /// Files of schema 1, and what they told once they had their tables.
-pub fn older(alloc: Global) -> (String, Files<TestDisk>) {
+fn older(alloc: Global) -> (String, Files<TestDisk>) {
     let mut files = no_files(alloc);
     for sql in FIRST_TABLES {
         let (_told, left) = done(alloc, files, Step::Change(sql));

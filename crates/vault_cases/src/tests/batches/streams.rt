@@ -1,9 +1,9 @@
 //! Readers that give a little at a time, writers that take a little, and either that fails.
 use super::{ANSWERED, ASKED, Ended, Told, is_told, run_new};
-use crate::tests::fakes::{CountingWriter, PieceReader, TestReader, TestWriter};
 use std::alloc::Global;
 use std::cell::Cell;
 use vault_batch::fault::BatchFault;
+use vault_script::fakes::{CountingWriter, PieceReader, TestReader, TestWriter};
 
 /// The worked rows over a slow reader and a slow writer that fail at these calls.
 fn run_slow(alloc: Global, bad: (usize, usize), output: &mut Vec<u8>) -> Ended {

@@ -1,13 +1,13 @@
 //! The forty requests over ordered maps: in lumps of each size, by a reader that fails at each call, and by a
 //! writer that does.
-use crate::tests::fakes::{TestReader, TestWriter};
-use crate::tests::shops::shop;
 use std::alloc::Global;
 use std::cell::Cell;
 use vault_http::fault::ServeFault;
 use vault_http::serve::serve;
 use vault_http::served::Served;
+use vault_script::fakes::{TestReader, TestWriter};
 use vault_script::forty::{MESSAGES, Pairs, SHOP, answers, messages};
+use vault_script::shops::shop;
 use vault_wire::watched::Watched;
 
 /// How the messages come: so many bytes at a call, with a reader and a writer that fail at these calls,

@@ -1,11 +1,11 @@
 //! Readers that give a little at a time, writers that take a little, and either that fails.
 use super::connect_new;
-use crate::tests::fakes::{CountingWriter, PieceReader, TestReader, TestWriter};
-use crate::tests::shops::repeated;
 use std::alloc::Global;
 use std::cell::Cell;
 use vault_http::fault::{ServeFault, refusal_of};
 use vault_http::served::Served;
+use vault_script::fakes::{CountingWriter, PieceReader, TestReader, TestWriter};
+use vault_script::shops::repeated;
 use vault_script::worked::{ANSWERED, ASKED};
 
 /// How a connection ended.

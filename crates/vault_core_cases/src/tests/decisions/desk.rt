@@ -2,6 +2,7 @@
 use super::told::told;
 use std::alloc::Global;
 use vault_core::changes::Changes;
+use vault_core::moment::Moment;
 use vault_core::row::{Entry, MerchantRow, Record};
 use vault_core::usage::Use;
 use vault_core::window::Window;
@@ -17,32 +18,60 @@ pub struct Desk {
     pub changes: Changes,
 }
 
+/// How many tokens the words of a `shop` say were made, given and denied.
+fn counts(line: &str) -> Option<(u64, u64, u64)> {
+    let made = number(line, 4)?;
+    let given = number(line, 5)?;
+    Some((made, given, number(line, 6)?))
+}
+
+/// The lives and the moment that the words of a `shop` say.
+fn lives(line: &str) -> Option<(u64, u64, Moment)> {
+    let single = number(line, 1)?;
+    let multi = number(line, 2)?;
+    Some((single, multi, moment(line, 3)?))
+}
+
 /// The merchant of `shop SINGLE MULTI MOMENT MADE GIVEN DENIED [eight]`: its lead is six, or eight.
 fn shop(line: &str) -> Option<MerchantRow> {
+    let (single_life, multi_life, moment) = lives(line)?;
+    let (made, given, denied) = counts(line)?;
     let lead = if word(line, 7) == Some("eight") {
         Lead::Eight
     } else {
         Lead::Six
     };
     Some(MerchantRow {
-        single_life: number(line, 1)?,
-        multi_life: number(line, 2)?,
+        single_life,
+        multi_life,
         lead,
-        moment: moment(line, 3)?,
-        made: number(line, 4)?,
-        given: number(line, 5)?,
-        denied: number(line, 6)?,
+        moment,
+        made,
+        given,
+        denied,
     })
+}
+
+/// The use at a place of a line.
+fn usage(line: &str, place: usize) -> Option<Use> {
+    Use::read(word(line, place)?.as_bytes()).ok()
+}
+
+/// The birth and the end that the words of an entry say.
+fn span(words: &str) -> Option<(Moment, u64)> {
+    let birth = moment(words, 2)?;
+    Some((birth, number(words, 3)?))
 }
 
 /// The entry behind ` of `, as in `named of NUMBER USE BIRTH EXPIRES REVOKED`; `-` is no number or moment.
 pub fn entry(line: &str) -> Option<Entry> {
-    let words = line.split_once(" of ")?.1;
+    let (_, words) = line.split_once(" of ")?;
+    let (birth, expires) = span(words)?;
     Some(Entry {
-        number: Pan::read(word(words, 0)?.as_bytes()).ok(),
-        usage: Use::read(word(words, 1)?.as_bytes()).ok()?,
-        birth: moment(words, 2)?,
-        expires: number(words, 3)?,
+        number: Pan::read(word(words, 0).unwrap_or("").as_bytes()).ok(),
+        usage: usage(words, 1)?,
+        birth,
+        expires,
         revoked: moment(words, 4),
     })
 }
@@ -52,7 +81,7 @@ fn recorded(line: &str) -> Option<(Record, Entry)> {
     let record = Record {
         merchant: merchant(line, 1)?,
         token: token(line, 2)?,
-        usage: Use::read(word(line, 3)?.as_bytes()).ok()?,
+        usage: usage(line, 3)?,
     };
     Some((record, entry(line)?))
 }

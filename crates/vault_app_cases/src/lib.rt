@@ -1,6 +1,0 @@
-//! Worked cases of the program, on words and bytes and on files: this crate holds tests alone, so that each
-//! takes the libraries as they are proved.
-#![tactic(auto)]
-
-#[cfg(test)]
-mod tests;

@@ -1,0 +1,1 @@
+"""Runs of the program by words, input and files, each with what it says and leaves."""

@@ -1,0 +1,29 @@
+"""The whole trial: python3 -m runs PROGRAM"""
+
+import sys
+
+from runs import answers, batches, commands, connections, files, help, lists, options, paths, purges, reasons
+from runs import refusals, rights, rows, sequences, streams, sweeps, words
+from shared.masked import MaskedTally
+
+SUBJECTS = (
+    *(answers, sequences, connections, commands, batches, rows, files, paths, rights, lists),
+    *(sweeps, purges, streams, words, options, help, reasons, refusals),
+)
+
+
+def main(program):
+    """Judges each subject, and counts what passed of it."""
+    tally = MaskedTally()
+    passed = {}
+    for subject in SUBJECTS:
+        before = tally.passed
+        subject.judged(tally, program)
+        passed[subject.__name__.removeprefix("runs.")] = tally.passed - before
+    tally.figures.clear()
+    tally.figures.update(passed)
+    tally.show("runs")
+    tally.end()
+
+
+main(*sys.argv[1:])
