@@ -33,6 +33,7 @@ try() {
 
 try kills.sh --kills 500
 try disk.sh all
+try cuts.sh all
 try damage.sh all
 try memory.sh all
 try bytes.sh --streams 3000
