@@ -3,8 +3,8 @@
 #
 # Builds a Debian package of the built program in FOLDER, for amd64 alone, as the program is: the program, its
 # units with their scripts, its man page, completions for bash, the page for the back office, the pages for
-# those who run it, and as examples both fronts, other scripts of this folder and three clients. It prints the
-# package's name. An image without /usr/share/doc lacks nothing but the pages.
+# those who run it, and as examples both fronts, the files of a standby, other scripts of this folder and the
+# clients. It prints the package's name. An image without /usr/share/doc lacks nothing but the pages.
 #
 # The package makes the user `vault` and the folder /var/lib/vault. It starts nothing, and its removal takes
 # away neither the folder nor a vault's file.
@@ -40,8 +40,8 @@ gzip -9n "$root/usr/share/man/man1/vault.1"
 place 644 "$here/vault.bash-completion" /usr/share/bash-completion/completions/vault
 doc=/usr/share/doc/vault
 examples=/usr/share/vault/examples
-for page in OPERATING.md SCALE.md API.md REFUSALS.md PROVED.md MODEL.md DEFINITIONS.md TRIALS.md LIMITS.md \
-    DECISIONS.md openapi.yaml; do
+for page in OPERATING.md SCALE.md STANDBY.md API.md REFUSALS.md PROVED.md MODEL.md DEFINITIONS.md TRIALS.md \
+    LIMITS.md DECISIONS.md openapi.yaml; do
     place 644 "$top/docs/$page" "$doc/$page"
 done
 for picture in "$top"/docs/office-*.png; do
@@ -59,6 +59,9 @@ for file in logrotate rsyslog.conf; do
     place 644 "$here/logs/$file" "$examples/logs/$file"
 done
 place 755 "$here/logs/who.py" "$examples/logs/who.py"
+for file in vault.res corosync.conf cluster.crm standby.conf cable.network relay.cfg; do
+    place 644 "$here/standby/$file" "$examples/standby/$file"
+done
 for file in index.html office.css office.js; do
     place 644 "$here/office/$file" "/usr/share/vault/office/$file"
 done

@@ -12,7 +12,8 @@ docs/CONTRIBUTING.md 900
 docs/DECISIONS.md 2500
 docs/LIMITS.md 1500
 docs/MODEL.md 1500
-docs/PROVED.md 1200'
+docs/PROVED.md 1200
+docs/STANDBY.md 1200'
 
 # Words, the longest sentence and the longest cell of a page. Code between fences isn't prose.
 measured() {

@@ -42,6 +42,7 @@ try outages.sh
 for script in followed front haproxy office exporter logs batch spread; do
     try "$script.sh"
 done
+try standby.sh
 try wrong.sh
 echo
 echo '| Trial | Passed | Failed | Seconds |'

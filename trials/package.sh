@@ -3,21 +3,7 @@
 # where that is allowed. sh trials/package.sh [PROGRAM]
 set -eu
 . "$(dirname "$0")/shared/begin.sh"
-passed=0
-failed=0
-
-# One step: its name, and whether it holds.
-step() {
-    if [ "$2" = yes ]; then
-        passed=$((passed + 1))
-    else
-        failed=$((failed + 1))
-        echo "FAILED  $1${3:+: $3}"
-    fi
-}
-
-# yes or no, by a command's status.
-holds() { if "$@" > said 2>&1; then echo yes; else echo no; fi; }
+. "$here/shared/steps.sh"
 
 deploy=$here/../deploy
 step "the package is built" "$(holds sh "$deploy/package.sh" "$program" .)" "$(cat said 2> /dev/null || :)"
@@ -31,14 +17,16 @@ fi
 # What is in it: what the pages and the package itself name.
 dpkg-deb -c "$package" | awk '{ print $1, $6 }' > inside
 step "its root is open" "$(holds grep -qx 'drwxr-xr-x ./' inside)" "$(head -n 1 inside)"
-for name in OPERATING.md SCALE.md API.md REFUSALS.md PROVED.md SECURITY.md CHANGELOG.md openapi.yaml \
-    TRIALS.md; do
+for name in OPERATING.md SCALE.md STANDBY.md API.md REFUSALS.md PROVED.md SECURITY.md CHANGELOG.md \
+    openapi.yaml TRIALS.md; do
     step "$name is in it" "$(holds grep -q " ./usr/share/doc/vault/$name\$" inside)"
 done
 for name in examples/nginx.conf examples/certificates.sh examples/rebuild.sh examples/clients/till.py \
     examples/clients/back_office.py examples/clients/batch.py examples/haproxy.cfg examples/alerts.yaml \
-    examples/logs/logrotate examples/logs/rsyslog.conf examples/logs/who.py office/index.html \
-    office/office.css office/office.js; do
+    examples/logs/logrotate examples/logs/rsyslog.conf examples/logs/who.py \
+    examples/standby/vault.res examples/standby/corosync.conf examples/standby/cluster.crm \
+    examples/standby/standby.conf examples/standby/cable.network examples/standby/relay.cfg \
+    office/index.html office/office.css office/office.js; do
     step "$name is in it" "$(holds grep -q " ./usr/share/vault/$name\$" inside)"
 done
 step "vault-look is in it" "$(holds grep -q ' ./usr/bin/vault-look$' inside)"
@@ -119,5 +107,4 @@ if may_install && [ "${TRY_INSTALL:-1}" = 1 ] && is_free; then
 else
     echo "it isn't installed here: root does that too, where there is no vault and TRY_INSTALL isn't 0"
 fi
-echo "$passed passed, $failed failed"
-[ "$failed" -eq 0 ]
+counted

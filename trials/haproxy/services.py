@@ -20,7 +20,7 @@ def changed(text, *pairs):
     """A text with one thing in place of another, each of which has to be there."""
     for old, new in pairs:
         if old not in text:
-            raise SystemExit(f"haproxy.cfg hasn't {old}\n0 passed, 1 failed")
+            raise SystemExit(f"the file hasn't {old}\n0 passed, 1 failed")
         text = text.replace(old, new)
     return text
 

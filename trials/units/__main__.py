@@ -65,6 +65,7 @@ def of_copies(tally, machine, step, freezes="100", *words):
     killed(tally)
     shop(step)
     copies.timers(step)
+    copies.clustered(tally, machine, step)
     copies.under_load(tally, machine, step, int(freezes))
     copies.ended(tally, machine, step, every="all" in words)
     copies.too_long(step)

@@ -72,6 +72,28 @@ ls $copies 2> /dev/null | wc -l
     step("its fences", level, r"level for vault-backup.service: [0-3]\.")
 
 
+def clustered(tally, machine, step):
+    """A service that a cluster runs isn't copied, upgraded or removed, and stays as it is."""
+    begun = invocation(machine)
+    of_pacemaker = "/run/systemd/system/vault.service.d"
+    begin = f"""install -d {of_pacemaker}
+printf '[Unit]\\nDescription=Cluster Controlled vault\\n' > {of_pacemaker}/50-pacemaker.conf
+systemctl daemon-reload
+"""
+    refused = "a cluster runs vault, so nothing is copied here"
+    step("a cluster's service isn't copied", begin + BACKUP.format(way=""), refused, well=False)
+    upgrade = "apt-get install -y --reinstall /srv/vault_*.deb"
+    refused = "A cluster runs vault.service here, so nothing is changed"
+    step("nor upgraded", upgrade, refused, well=False)
+    refused = "A cluster runs vault.service here, so nothing is removed"
+    step("nor removed", "apt-get remove -y vault", refused, well=False)
+    tally.judge("and it goes on", ends_since(machine, begun))
+    end = f"""rm -r {of_pacemaker}; systemctl daemon-reload
+echo vault install | dpkg --set-selections; dpkg -s vault
+"""
+    step("it is installed still", end, "^Status: install ok installed$")
+
+
 def under_load(tally, machine, step, freezes):
     """Copies and freezes by both ways while four clients ask: nothing is refused, and nothing lost."""
     begun = invocation(machine)
