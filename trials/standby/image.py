@@ -85,7 +85,8 @@ def installed(root, program, repository):
     text = BEFORE + INSTALL + " ".join(PACKAGES) + " /srv/vault.deb\n" + AFTER + masks
     must("mount", "-t", "proc", "proc", f"{root}/proc")
     try:
-        must("chroot", root, "sh", "-eu", "-c", text)
+        # the trial's own folder for short-lived files isn't there
+        must("chroot", root, "env", "TMPDIR=/tmp", "sh", "-eu", "-c", text)
     finally:
         must("umount", f"{root}/proc")
     shutil.copy(glob.glob(f"{root}/boot/vmlinuz-*")[0], "vmlinuz")
