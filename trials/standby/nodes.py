@@ -78,9 +78,10 @@ class Node:
         own = f"file={self.name}.img,format=raw,if=none,id=own,cache=writeback"
         data = f"file={self.name}.data,format=raw,if=none,id=data,cache=none,rerror=report,werror=report"
         return [
-            *("qemu-system-x86_64", "-accel", ACCELERATOR, "-smp", "2", "-m", "640", "-display", "none"),
-            *("-nodefaults", "-rtc", f"base={clock}", "-kernel", "vmlinuz", "-initrd", "initrd"),
-            *("-append", KERNEL, "-serial", f"file:{self.name}.console"),
+            *("qemu-system-x86_64", "-accel", ACCELERATOR, "-cpu", "max", "-smp", "2", "-m", "640"),
+            *("-display", "none", "-nodefaults", "-rtc", f"base={clock}"),
+            *("-kernel", "vmlinuz", "-initrd", "initrd", "-append", KERNEL),
+            *("-serial", f"file:{self.name}.console"),
             *("-drive", own, "-device", "virtio-blk-pci,drive=own"),
             *("-drive", data, "-device", "virtio-blk-pci,drive=data"),
             *ports,
