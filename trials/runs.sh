@@ -3,4 +3,7 @@
 # status and each byte of the output and of the errors is judged. sh trials/runs.sh [PROGRAM]
 set -eu
 . "$(dirname "$0")/shared/begin.sh"
-python3 -m runs "$program"
+# help names the program as it was called
+mkdir named
+ln -s "$program" named/vault
+python3 -m runs "$folder/named/vault"
