@@ -108,7 +108,7 @@ def of_standby(root, deploy):
         (WORDS.format(number=number), f"ip={FRONT} port={monitor_port(node)}")
         for number, node in enumerate(NODES, 1)
     ]
-    put(root, "root/cluster.crm", text("cluster.crm", (FENCE, "stonith:fence_qemu"), *switches))
+    put(root, "etc/vault/cluster.crm", text("cluster.crm", (FENCE, "stonith:fence_qemu"), *switches))
     put(root, "usr/sbin/fence_qemu", open(f"{os.path.dirname(__file__)}/fence_qemu").read(), 0o755)
     with open(f"{root}/etc/corosync/authkey", "wb") as file:
         file.write(secrets.token_bytes(256))

@@ -67,7 +67,7 @@ class Pair:
 
     def cluster(self):
         """The cluster's configuration, once, on one of them; who serves then."""
-        self.nodes[NODES[0]].type("crm configure load update /root/cluster.crm", seconds=600)
+        self.nodes[NODES[0]].type("crm configure load update /etc/vault/cluster.crm", seconds=600)
         return self.whole()
 
     def serving(self):
