@@ -11,6 +11,7 @@ from standby.nodes import NODES, Refused, apart, other
 # how long the other one has to answer first, in seconds, on machines that are emulated
 TAKEOVER = 300
 ROLES = "drbdadm role vault; drbdadm cstate vault; drbdadm dstate vault"
+PRIMARY = "drbdadm primary vault"
 
 
 def errors_since(tills, moment):
@@ -103,16 +104,24 @@ def switch(tally, pair, tills):
             pair.nodes[name].type(f"crm node online {name}", seconds=300)
 
 
+def refusal_of(machine):
+    """What is wrong with how a machine without the cable is refused to be made primary."""
+    command = f"timeout 90 {PRIMARY} > said 2>&1; echo ended $?; cat said"
+    try:
+        said = machine.type(command, well=False)
+    except Refused as fault:
+        return f"{fault}; then it was up for {machine.says('cut -d. -f1 /proc/uptime')} s"
+    return "" if said.startswith("ended") and not said.startswith(("ended 0", "ended 124")) else said
+
+
 def cable(tally, pair, tills):
     """The cable of the volume is out: the one that serves goes on, and the other one can't take over."""
 
     def deed(node):
-        waiting = pair.nodes[other(node)]
         with pair.cable_out(node):
             time.sleep(40)
             told = [f"{it}: {' '.join(pair.nodes[it].says(ROLES).split())}" for it in NODES]
-            refused = waiting.type("drbdadm primary vault > /dev/null 2>&1; echo ended $?", well=False)
-        fault = "" if "ended" in refused and "ended 0" not in refused else refused or "no answer"
+            fault = refusal_of(pair.nodes[other(node)])
         tally.judge("a cable is out: the other one isn't made primary", fault)
         return told
 

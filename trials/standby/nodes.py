@@ -121,13 +121,14 @@ class Node:
             raise Refused(f"{name} of {self.name}: {answer}")
 
     def type(self, command, seconds=120, well=True):
-        """What a command says on it, which has to end well."""
+        """What a command says on it, which has to end well; otherwise, what it said when it ended."""
         try:
             words = [*SSH, f"root@{SHOP}.{self.number}", command]
             ran = subprocess.run(words, capture_output=True, text=True, timeout=seconds)
         except subprocess.TimeoutExpired:
             raise Refused(f"{self.name}: {command[:80]}: no end in {seconds} s") from None
-        if well and ran.returncode != 0:
+        # ssh itself ends with 255, where the command wasn't asked or its end isn't known
+        if ran.returncode == 255 or (well and ran.returncode != 0):
             raise Refused(f"{self.name}: {command[:80]}: {(ran.stdout + ran.stderr)[-400:]}")
         return ran.stdout
 

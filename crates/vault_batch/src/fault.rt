@@ -5,7 +5,7 @@ use vault_engine::stop::Stop;
 use vault_refusal::refusal::Refusal;
 
 /// Why a batch stopped before the end of its rows.
-#[derive(Clone, Copy, PartialEq, Eq, Debug, Drop)]
+#[derive(Clone, Copy, PartialEq, Eq, Drop)]
 pub enum BatchFault {
     /// 40: the first record isn't the header, or there is none.
     BadHeader,

@@ -9,7 +9,7 @@ use crate::row::{Entry, GrantRow, Lives, Record};
 use vault_pan::token::Token;
 
 /// Which count of the merchant goes up by one. The numbers stand in the stored rows.
-#[derive(Clone, Copy, Debug, PartialEq, Eq)]
+#[derive(Clone, Copy, PartialEq, Eq)]
 pub enum Count {
     Made = 1,
     Given,
@@ -26,7 +26,7 @@ impl Count {
 }
 
 /// What a command changes.
-#[derive(Clone, Copy, Debug)]
+#[derive(Clone, Copy)]
 pub struct Changes {
     /// What a merchant has from now on, but its counts.
     pub lives: Option<(MerchantId, Lives)>,

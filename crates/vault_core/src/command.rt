@@ -17,7 +17,7 @@ use vault_pan::pan::Pan;
 use vault_pan::token::Token;
 
 /// What can be asked of a vault.
-#[derive(Clone, Copy, Debug)]
+#[derive(Clone, Copy)]
 pub enum Command {
     /// Makes a merchant, or sets its lives and its lead anew.
     SetMerchant {

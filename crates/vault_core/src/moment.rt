@@ -7,7 +7,7 @@ use std::marker::Model;
 use vault_refusal::refusal::Refusal;
 
 /// Whole seconds since 1970. Contracts see their number.
-#[derive(Clone, Copy, Debug, PartialEq, Eq, PartialOrd, Ord)]
+#[derive(Clone, Copy, PartialEq, Eq, PartialOrd, Ord)]
 pub struct Moment {
     seconds: u64,
 }

@@ -7,7 +7,7 @@ use vault_pan::short::Short;
 use vault_refusal::refusal::Refusal;
 
 /// The name of a caller, a till or a back office. Contracts see its bytes.
-#[derive(Clone, Copy, Debug, PartialEq, Eq, PartialOrd, Ord)]
+#[derive(Clone, Copy, PartialEq, Eq, PartialOrd, Ord)]
 pub struct Caller {
     text: Short<16>,
 }
@@ -26,7 +26,7 @@ impl Model for Caller {
 }
 
 /// The name of a merchant. Contracts see its bytes.
-#[derive(Clone, Copy, Debug, PartialEq, Eq, PartialOrd, Ord)]
+#[derive(Clone, Copy, PartialEq, Eq, PartialOrd, Ord)]
 pub struct MerchantId {
     text: Short<16>,
 }

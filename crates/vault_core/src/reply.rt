@@ -9,7 +9,7 @@ use vault_pan::pan::Pan;
 use vault_pan::token::Token;
 
 /// Whether a token can be redeemed.
-#[derive(Clone, Copy, Debug, PartialEq, Eq)]
+#[derive(Clone, Copy, PartialEq, Eq)]
 pub enum State {
     Live,
     /// Its life is over, and it wasn't revoked.
@@ -32,7 +32,7 @@ impl State {
 }
 
 /// What a command is answered.
-#[derive(Clone, Copy, Debug, PartialEq, Eq)]
+#[derive(Clone, Copy, PartialEq, Eq)]
 pub enum Reply {
     Done,
     /// A token, and the first second, since 1970, at which it isn't live.

@@ -11,7 +11,7 @@ use vault_refusal::refusal::Refusal;
 pub const LAST_REQUEST: u64 = 9223372036854775807;
 
 /// The number that a caller gives a request. Contracts see the number.
-#[derive(Clone, Copy, Debug, PartialEq, Eq, PartialOrd, Ord)]
+#[derive(Clone, Copy, PartialEq, Eq, PartialOrd, Ord)]
 pub struct RequestNo {
     number: u64,
 }

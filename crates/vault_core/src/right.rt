@@ -4,7 +4,7 @@ ghost use Rattle.vault_core.specs.Numbers.{right_number};
 ghost use Rattle.vault_core.specs.Words.{right_word};
 
 /// What a caller may do at a merchant. The numbers stand in the stored rows.
-#[derive(Clone, Copy, Debug, PartialEq, Eq, PartialOrd, Ord)]
+#[derive(Clone, Copy, PartialEq, Eq, PartialOrd, Ord)]
 pub enum Right {
     Tokenize = 1,
     Detokenize,

@@ -12,7 +12,7 @@ use vault_pan::pan::Pan;
 use vault_pan::token::Token;
 
 /// A merchant, with the counts of its tokens made, numbers given and numbers denied.
-#[derive(Clone, Copy, Debug, PartialEq, Eq)]
+#[derive(Clone, Copy, PartialEq, Eq)]
 pub struct MerchantRow {
     /// How many seconds a single-use token lives; 0 where they aren't offered.
     pub single_life: u64,
@@ -28,7 +28,7 @@ pub struct MerchantRow {
 }
 
 /// A merchant without its counts: how long its tokens live, how many digits its masks show, and its moment.
-#[derive(Clone, Copy, Debug, PartialEq, Eq)]
+#[derive(Clone, Copy, PartialEq, Eq)]
 pub struct Lives {
     pub single_life: u64,
     pub multi_life: u64,
@@ -82,7 +82,7 @@ impl MerchantRow {
 }
 
 /// What a token stands for.
-#[derive(Clone, Copy, Debug, PartialEq, Eq)]
+#[derive(Clone, Copy, PartialEq, Eq)]
 pub struct Entry {
     /// The card number, unless it is purged.
     pub number: Option<Pan>,
@@ -122,7 +122,7 @@ impl Entry {
 }
 
 /// A right that a caller has at a merchant: up to an end, or for good.
-#[derive(Clone, Copy, Debug, PartialEq, Eq)]
+#[derive(Clone, Copy, PartialEq, Eq)]
 pub struct GrantRow {
     /// The first moment at which the caller doesn't have it any more.
     pub ends: Option<Moment>,
@@ -141,7 +141,7 @@ impl GrantRow {
 }
 
 /// What an accepted request was answered.
-#[derive(Clone, Copy, Debug, PartialEq, Eq)]
+#[derive(Clone, Copy, PartialEq, Eq)]
 pub struct Record {
     pub merchant: MerchantId,
     pub token: Token,

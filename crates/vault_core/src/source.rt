@@ -5,7 +5,7 @@ use crate::moment::Moment;
 use vault_pan::draw::Digits;
 
 /// A source has no pair to give.
-#[derive(Clone, Copy, Debug, PartialEq, Eq)]
+#[derive(Clone, Copy, PartialEq, Eq)]
 pub struct SourceFault;
 
 /// Gives a moment and drawn digits, one pair for each command. Contracts see the pairs that it gave.

@@ -6,7 +6,7 @@ ghost use Rattle.vault_core.specs.Words.{use_word};
 use vault_refusal::refusal::Refusal;
 
 /// What a token stands for. The numbers stand in the stored rows.
-#[derive(Clone, Copy, Debug, PartialEq, Eq)]
+#[derive(Clone, Copy, PartialEq, Eq)]
 pub enum Use {
     /// One transaction: each new request gets a new token.
     Single = 1,

@@ -5,7 +5,7 @@ use crate::row::{Entry, MerchantRow, Record};
 use vault_pan::token::Token;
 
 /// What a vault holds at the places that a command needs.
-#[derive(Clone, Copy, Debug)]
+#[derive(Clone, Copy)]
 pub struct Window {
     /// The merchant that the command names.
     pub merchant: Option<MerchantRow>,

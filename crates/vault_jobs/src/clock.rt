@@ -8,7 +8,7 @@ use vault_http::fault::ServeFault;
 use vault_listen::time::{Questions, Timekeeper};
 
 /// Who gives the moment of a job.
-#[derive(Clone, Copy, Debug, PartialEq, Eq, Drop)]
+#[derive(Clone, Copy, PartialEq, Eq, Drop)]
 pub enum Giver {
     /// The words fix it.
     Words,

@@ -9,7 +9,7 @@ use vault_refusal::refusal::Refusal;
 use vault_store::vault::Fault;
 
 /// Why a job stopped.
-#[derive(Clone, Copy, Debug, PartialEq, Eq, Drop)]
+#[derive(Clone, Copy, PartialEq, Eq, Drop)]
 pub enum Stop {
     /// 20 to 22: a command of the words wasn't answered, or there was no memory for the words.
     Vault(Fault),

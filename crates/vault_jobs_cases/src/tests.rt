@@ -1,4 +1,4 @@
-//! Worked cases of jobs and services, by clocks and with desks of the tests' own.
+//! Worked cases of jobs and services, by clocks and with desks of the tests' own, and runs over files in memory.
 mod ahead;
 mod clocks;
 mod desks;
@@ -9,3 +9,4 @@ mod service;
 mod sweeps;
 mod tasks;
 mod trial;
+mod witness;

@@ -15,7 +15,7 @@ use vault_store::vault::{Fault, Vault};
 pub(crate) const MOST: usize = 100;
 
 /// Why no more commands were carried out.
-#[derive(Clone, Copy, Debug, PartialEq, Eq, Drop)]
+#[derive(Clone, Copy, PartialEq, Eq, Drop)]
 pub(crate) enum End {
     /// All of them are done.
     All,
@@ -30,7 +30,7 @@ pub(crate) enum End {
 }
 
 /// How many of some commands are done, and why no more.
-#[derive(Clone, Copy, Debug, PartialEq, Eq, Drop)]
+#[derive(Clone, Copy, PartialEq, Eq, Drop)]
 pub(crate) struct Carried {
     pub(crate) done: usize,
     pub(crate) end: End,

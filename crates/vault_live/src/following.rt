@@ -50,7 +50,7 @@ fn waiting<R: Drop>(news: &News, rows: Vec<R>) -> Option<Vec<R>>
 }
 
 /// What there is to do, or to say.
-#[derive(Clone, Copy, Debug, PartialEq, Eq, Drop)]
+#[derive(Clone, Copy, PartialEq, Eq, Drop)]
 pub(crate) enum Found {
     /// Nothing.
     Nothing,

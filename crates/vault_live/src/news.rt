@@ -13,7 +13,7 @@ use vault_core::name::MerchantId;
 use vault_wire::watched::Watched;
 
 /// What came of a list between two connections, and when.
-#[derive(Clone, Copy, Debug, PartialEq, Eq, Drop)]
+#[derive(Clone, Copy, PartialEq, Eq, Drop)]
 pub enum News {
     /// Nothing was done, and nothing is said.
     Nothing,

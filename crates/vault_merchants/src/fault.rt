@@ -5,7 +5,7 @@ use std::alloc::AllocError;
 use vault_refusal::refusal::Refusal;
 
 /// Why a list of merchants is refused.
-#[derive(Clone, Copy, PartialEq, Eq, Debug, Drop)]
+#[derive(Clone, Copy, PartialEq, Eq, Drop)]
 pub enum MerchantsFault {
     /// 70: the text is no TOML document in UTF-8.
     NotToml,

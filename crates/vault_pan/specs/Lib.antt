@@ -4,4 +4,3 @@ pub mod Luhn
 pub mod Mask
 pub mod Pan
 pub mod ShortTexts
-pub mod Shown

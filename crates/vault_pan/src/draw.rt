@@ -8,7 +8,6 @@ use crate::luhn::passes;
 use crate::pan::{MOST_DIGITS, Pan};
 use crate::short::Short;
 use crate::token::Token;
-use std::fmt;
 use std::marker::Model;
 
 /// How many candidates a drawing gives, each from a group of its own.
@@ -21,8 +20,6 @@ pub const GROUP_DIGITS: usize = 15;
 pub const DRAWN_DIGITS: usize = 300;
 
 /// A drawing: 300 digits by their values, in 20 groups of 15. Contracts see the list of values.
-///
-/// Its `Debug` shows none of them.
 #[derive(Clone, Copy)]
 pub struct Digits {
     values: [u8; DRAWN_DIGITS],
@@ -68,16 +65,6 @@ impl Digits {
         ensures drawing { IsDrawing self.now }
     {
         &self.values
-    }
-}
-
-impl fmt::Debug for Digits {
-    ghost use Rattle.std.specs.Prelude.{Some, codes};
-
-    ghost debug_output = { λ _. Some (codes "Digits") };
-
-    fn fmt<W: fmt::Write>(&self, f: &mut fmt::Formatter<W>) -> fmt::Result {
-        write!(f, "Digits")
     }
 }
 

@@ -66,18 +66,6 @@ impl fmt::Display for Masked {
     }
 }
 
-impl fmt::Debug for Masked {
-    ghost use Rattle.std.specs.Prelude.{Some};
-    ghost use Rattle.vault_pan.specs.Shown.{shown_masked};
-
-    ghost debug_output = { λ masked. Some (shown_masked masked) };
-
-    fn fmt<W: fmt::Write>(&self, f: &mut fmt::Formatter<W>) -> fmt::Result {
-        let text = self.as_str();
-        write!(f, "Masked({text})")
-    }
-}
-
 /// How many digits of a card number of so many digits are shown at the front.
 fn front_of(lead: Lead, len: usize) -> usize
     // the number has ten digits or more

@@ -19,7 +19,7 @@ pub const MOST_DIGITS: usize = 19;
 
 /// A card number: 10 to 19 digits that pass the check. Contracts see its ASCII digits.
 ///
-/// Its `Debug` says how many digits it has, and shows none of them.
+/// There is no `Debug`, so no text that is made for programmers shows it.
 #[derive(Clone, Copy, PartialEq, Eq, PartialOrd, Ord)]
 pub struct Pan {
     text: Short<MOST_DIGITS>,
@@ -86,18 +86,6 @@ impl Pan {
         ensures most { result ≤ 19 }
     {
         self.text.len()
-    }
-}
-
-impl fmt::Debug for Pan {
-    ghost use Rattle.std.specs.Prelude.{Some};
-    ghost use Rattle.vault_pan.specs.Shown.{shown_pan};
-
-    ghost debug_output = { λ pan. Some (shown_pan pan) };
-
-    fn fmt<W: fmt::Write>(&self, f: &mut fmt::Formatter<W>) -> fmt::Result {
-        let count = self.len();
-        write!(f, "Pan({count} digits)")
     }
 }
 

@@ -6,13 +6,12 @@ ghost use Rattle.std.specs.Cmp.Lexicographic.{pointwise, slice_cmp, nat_list_eq_
 ghost use Rattle.std.specs.Cmp.Lexicographic.{texts_po, texts_ties};
 
 use std::cmp::Ordering;
-use std::fmt;
 use std::marker::Model;
 
 /// A text of up to `N` bytes, which takes no memory. Contracts see the list of its bytes.
 ///
-/// Texts are compared byte by byte, and a text stands before each that it begins. `Debug` says how
-/// many bytes there are, and shows none of them: they may be a card number's.
+/// Texts are compared byte by byte, and a text stands before each that it begins. There is no `Debug`: they may
+/// be a card number's.
 #[derive(Clone, Copy)]
 pub struct Short<const N: usize> {
     cells: [u8; N],
@@ -88,18 +87,6 @@ impl<const N: usize> Short<N> {
         for byte in bytes {
             self.push(*byte);
         }
-    }
-}
-
-impl<const N: usize> fmt::Debug for Short<N> {
-    ghost use Rattle.std.specs.Prelude.{Some};
-    ghost use Rattle.vault_pan.specs.Shown.{shown_short};
-
-    ghost debug_output = { λ bytes. Some (shown_short bytes) };
-
-    fn fmt<W: fmt::Write>(&self, f: &mut fmt::Formatter<W>) -> fmt::Result {
-        let count = self.len();
-        write!(f, "Short({count} bytes)")
     }
 }
 

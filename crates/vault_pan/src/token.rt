@@ -99,18 +99,6 @@ impl fmt::Display for Token {
     }
 }
 
-impl fmt::Debug for Token {
-    ghost use Rattle.std.specs.Prelude.{Some};
-    ghost use Rattle.vault_pan.specs.Shown.{shown_token};
-
-    ghost debug_output = { λ token. Some (shown_token token) };
-
-    fn fmt<W: fmt::Write>(&self, f: &mut fmt::Formatter<W>) -> fmt::Result {
-        let digits = self.as_str();
-        write!(f, "Token({digits})")
-    }
-}
-
 /// A text is no token.
 #[derive(Clone, Copy, Debug, PartialEq, Eq)]
 pub struct BadToken;

@@ -5,7 +5,7 @@ use std::alloc::AllocError;
 use vault_refusal::refusal::Refusal;
 
 /// Why a rights file is refused.
-#[derive(Clone, Copy, PartialEq, Eq, Debug, Drop)]
+#[derive(Clone, Copy, PartialEq, Eq, Drop)]
 pub enum RightsFault {
     /// 70: the text is no TOML document in UTF-8.
     NotToml,

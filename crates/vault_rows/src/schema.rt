@@ -20,7 +20,7 @@ use vault_schema::version::{CREATE_LATER, PUT_VERSION};
 use vault_schema::{v1, v2};
 
 /// Why no schema was made.
-#[derive(Clone, Copy, Debug, PartialEq, Eq)]
+#[derive(Clone, Copy, PartialEq, Eq)]
 pub enum SchemaFault {
     /// The database has tables, indexes or views; nothing changed.
     Taken,

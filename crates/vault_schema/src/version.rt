@@ -13,7 +13,7 @@ use crate::v4::shape::is_v4;
 use sqlite_schema::schema::Schema;
 
 /// A version. The newest one is `NEWEST`.
-#[derive(Clone, Copy, Debug, PartialEq, Eq)]
+#[derive(Clone, Copy, PartialEq, Eq)]
 pub enum Version {
     One,
     Two,

@@ -23,7 +23,7 @@ use vault_pan::pan::Pan;
 use vault_pan::token::Token;
 
 /// Why a call of the tables gave nothing.
-#[derive(Clone, Copy, Debug, PartialEq, Eq)]
+#[derive(Clone, Copy, PartialEq, Eq)]
 pub enum TablesFault {
     /// Memory was refused; nothing changed, and the tables may be used.
     Memory,

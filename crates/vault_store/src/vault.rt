@@ -24,7 +24,7 @@ use vault_pan::token::Token;
 use vault_refusal::refusal::Refusal;
 
 /// Why a command wasn't answered.
-#[derive(Clone, Copy, Debug, PartialEq, Eq)]
+#[derive(Clone, Copy, PartialEq, Eq)]
 pub enum Fault {
     /// 20: memory was refused; nothing changed, and the vault may be used.
     Memory,

@@ -17,7 +17,7 @@ use crate::commands::trial::TrialJob;
 pub const VERSION: &str = "0.4.0";
 
 /// Why words are no job.
-#[derive(Debug, Drop)]
+#[derive(Drop)]
 pub enum JobFault {
     /// Help was asked for. This is its text.
     Help(String),
@@ -30,7 +30,7 @@ pub enum JobFault {
 }
 
 /// What words ask for. Names, rights and files are still to be read.
-#[derive(Clone, Copy, Debug)]
+#[derive(Clone, Copy)]
 pub enum Job<'a> {
     /// Messages from standard input are answered by a vault in memory, which ends with the program.
     Trial(TrialJob<'a>),

@@ -16,7 +16,7 @@ use vault_pan::lead::Lead;
 const MOST_CONNECTIONS: u64 = 1_000_000;
 
 /// A value is missing, or isn't one that the job takes.
-#[derive(Clone, Copy, Debug)]
+#[derive(Clone, Copy)]
 pub(crate) struct BadValue<'a> {
     /// The name that it has.
     pub id: &'a str,

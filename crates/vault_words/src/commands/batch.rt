@@ -13,7 +13,7 @@ use vault_core::moment::Moment;
 use vault_pan::draw::Digits;
 
 /// What a batch from standard input is answered with.
-#[derive(Clone, Copy, Debug)]
+#[derive(Clone, Copy)]
 pub struct BatchJob<'a> {
     /// The moment of each row; the clock's, if there is none.
     pub now: Option<Moment>,

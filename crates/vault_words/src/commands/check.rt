@@ -11,7 +11,7 @@ use clap::{ArgMatches, Command};
 use std::alloc::{AllocError, Global};
 
 /// What a file is checked with.
-#[derive(Clone, Copy, Debug)]
+#[derive(Clone, Copy)]
 pub struct CheckJob<'a> {
     /// The file of the vault.
     pub file: &'a str,

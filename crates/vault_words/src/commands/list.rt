@@ -11,7 +11,7 @@ use clap::{ArgMatches, Command};
 use std::alloc::{AllocError, Global};
 
 /// What the merchants and the rights of a file are listed with.
-#[derive(Clone, Copy, Debug)]
+#[derive(Clone, Copy)]
 pub struct ListJob<'a> {
     /// Whether each line is a JSON object.
     pub json: bool,

@@ -14,7 +14,7 @@ use vault_core::row::Lives;
 use vault_pan::lead::Lead;
 
 /// What a merchant's lives and its lead are set with.
-#[derive(Clone, Copy, Debug)]
+#[derive(Clone, Copy)]
 pub struct MerchantJob<'a> {
     /// The moment; the clock's, if there is none.
     pub now: Option<Moment>,

@@ -12,7 +12,7 @@ use std::alloc::{AllocError, Global};
 use vault_core::moment::Moment;
 
 /// What the merchants of a list are set with.
-#[derive(Clone, Copy, Debug)]
+#[derive(Clone, Copy)]
 pub struct MerchantsJob<'a> {
     /// The moment; the clock's, if there is none.
     pub now: Option<Moment>,

@@ -11,7 +11,7 @@ use clap::{ArgMatches, Command};
 use std::alloc::{AllocError, Global};
 
 /// What a file moves to the newest schema with.
-#[derive(Clone, Copy, Debug)]
+#[derive(Clone, Copy)]
 pub struct MigrateJob<'a> {
     /// The file of the vault.
     pub file: &'a str,

@@ -13,7 +13,7 @@ use vault_core::moment::Moment;
 use vault_pan::draw::Digits;
 
 /// What messages from standard input are answered with.
-#[derive(Clone, Copy, Debug)]
+#[derive(Clone, Copy)]
 pub struct PipeJob<'a> {
     /// The moment of each message; the clock's, if there is none.
     pub now: Option<Moment>,

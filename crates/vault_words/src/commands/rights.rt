@@ -13,7 +13,7 @@ use std::alloc::{AllocError, Global};
 use vault_core::moment::Moment;
 
 /// What a right is given or taken away with, but for its end.
-#[derive(Clone, Copy, Debug)]
+#[derive(Clone, Copy)]
 pub struct RightJob<'a> {
     /// The moment; the clock's, if there is none.
     pub now: Option<Moment>,
@@ -43,7 +43,7 @@ impl<'a> RightJob<'a> {
 }
 
 /// What a right is given with.
-#[derive(Clone, Copy, Debug)]
+#[derive(Clone, Copy)]
 pub struct GrantJob<'a> {
     /// Whose right at which merchant, in which file and when.
     pub given: RightJob<'a>,

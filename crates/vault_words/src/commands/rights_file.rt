@@ -12,7 +12,7 @@ use std::alloc::{AllocError, Global};
 use vault_core::moment::Moment;
 
 /// What the rights of a rights file are granted with.
-#[derive(Clone, Copy, Debug)]
+#[derive(Clone, Copy)]
 pub struct RightsFileJob<'a> {
     /// The moment; the clock's, if there is none.
     pub now: Option<Moment>,

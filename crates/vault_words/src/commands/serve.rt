@@ -11,7 +11,7 @@ use clap::{ArgMatches, Command};
 use std::alloc::{AllocError, Global};
 
 /// What connections are served with.
-#[derive(Clone, Copy, Debug)]
+#[derive(Clone, Copy)]
 pub struct ServeJob<'a> {
     /// After how many connections it ends; none where it goes on until it is ended.
     pub connections: Option<u64>,

@@ -12,7 +12,7 @@ use std::alloc::{AllocError, Global};
 use vault_core::moment::Moment;
 
 /// What the numbers of dead tokens are purged with.
-#[derive(Clone, Copy, Debug)]
+#[derive(Clone, Copy)]
 pub struct SweepJob<'a> {
     /// The moment of all purges; the clock's, if there is none.
     pub now: Option<Moment>,

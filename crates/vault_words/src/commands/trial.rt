@@ -13,7 +13,7 @@ use vault_core::moment::Moment;
 use vault_pan::draw::Digits;
 
 /// What a trial is asked with.
-#[derive(Clone, Copy, Debug)]
+#[derive(Clone, Copy)]
 pub struct TrialJob<'a> {
     /// The moment of each message; the clock's, if there is none.
     pub now: Option<Moment>,

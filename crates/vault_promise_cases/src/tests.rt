@@ -1,2 +1,0 @@
-//! Runs over files in memory.
-mod witness;
