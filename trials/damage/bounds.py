@@ -1,14 +1,11 @@
 """Small files, each with one row at a bound of a rule or past it, and the least rule that `check` says each
 breaks. Digits, sums and moments are worked out by hand. No key stands twice, since no file may have that.
 
-An edit puts a row behind those of a table, as `card 1,shop1,4111111111111111,1` does with its columns,
-or clears a table. Edits are parted by `; `. Below a base, each line has edits, and the rule behind ` = `."""
-
-import sqlite3
+Below a base, each line has edits as shared/laid.py makes them, and the rule behind ` = `."""
 
 from damage.changes import said
+from shared import laid
 from shared.runs import run, side_by_side
-from shared.schemas import tables
 from shared.tally import unlike
 
 # A file with one merchant, one card number and one token, of a request of a caller with one right.
@@ -214,51 +211,12 @@ card 1,shop1,4111111111111111,1; card 2,shop1,4222222222261111,1 = none
 card 1,shop1,4111111111111111,2; card 2,shop1,4222222222261111,0 = 13
 card 1,shop1,4111111111111111,0; card 2,shop1,4222222222261111,2 = 13""",
 }
-# The table of each kind of row, how many columns it has, and what the last one is where it is left out.
-TABLES = {
-    "version": ("vault", 2, None),
-    "merchant": ("merchants3", 5, 6),
-    "count": ("counts", 3, None),
-    "card": ("cards2", 4, None),
-    "entry": ("entries2", 7, None),
-    "record": ("records", 5, None),
-    "right": ("rights4", 4, None),
-}
-
-
-def make(conn, edit):
-    """Makes an edit."""
-    kind, _, columns = edit.partition(" ")
-    if edit == "sound":
-        make_all(conn, SOUND)
-    elif kind == "clear":
-        cleared = {"entries": "entry"}.get(columns, columns.removesuffix("s"))
-        conn.execute(f"DELETE FROM {TABLES[cleared][0]}")
-    elif kind == "merchants":
-        make_all(conn, "; ".join(f"merchant m{it},60,0,1000" for it in range(int(columns))))
-    else:
-        table, width, last = TABLES[kind]
-        row = [None if it == "-" else it for it in columns.split(",")]
-        row += [last] * (width - len(row))
-        conn.execute(f"INSERT INTO {table} VALUES ({', '.join('?' * width)})", row)
-
-
-def make_all(conn, edits):
-    """Makes edits."""
-    for edit in edits.split("; "):
-        make(conn, edit)
 
 
 def least(program, file, base, edits):
     """The least rule that a file breaks by these edits of a base, as a check says."""
-    conn = sqlite3.connect(file, isolation_level=None)
-    try:
-        conn.executescript(tables(4))
-        conn.execute("BEGIN")
-        make_all(conn, f"{base}; {edits}" if base != "no rows" else edits)
-        conn.execute("COMMIT")
-    finally:
-        conn.close()
+    every = edits if base == "no rows" else f"{base}; {edits}"
+    laid.make(file, every.replace("sound", SOUND))
     told = said(run(program, "check", file))
     return "none" if told.startswith("sound ") else told.removeprefix("31 ")
 

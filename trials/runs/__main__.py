@@ -2,13 +2,15 @@
 
 import sys
 
-from runs import answers, batches, commands, connections, files, help, lists, options, paths, purges, reasons
-from runs import refusals, rights, rows, sequences, streams, sweeps, words
+from runs import answers, batches, commands, connections, decisions, files, help, lists, names, numbers
+from runs import options, paths, purges, reasons, refusals, rights, rows, sequences, streams, sweeps, vaults
+from runs import words
 from shared.masked import MaskedTally
 
 SUBJECTS = (
     *(answers, sequences, connections, commands, batches, rows, files, paths, rights, lists),
     *(sweeps, purges, streams, words, options, help, reasons, refusals),
+    *(numbers, names, decisions, vaults),
 )
 
 

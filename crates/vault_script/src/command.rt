@@ -41,7 +41,7 @@ fn right(line: &str, place: usize) -> Option<Right> {
 }
 
 /// The token at a place of a line.
-pub fn token(line: &str, place: usize) -> Option<Token> {
+fn token(line: &str, place: usize) -> Option<Token> {
     Token::read(word(line, place)?.as_bytes()).ok()
 }
 
