@@ -3,11 +3,13 @@
 import sys
 
 from runs import answers, batches, commands, connections, files, help, lists, options, paths, purges, reasons
+from runs import heads, merchants, pieces
 from runs import refusals, rights, rows, sequences, streams, sweeps, words
 from shared.masked import MaskedTally
 
 SUBJECTS = (
     *(answers, sequences, connections, commands, batches, rows, files, paths, rights, lists),
+    *(heads, pieces, merchants),
     *(sweeps, purges, streams, words, options, help, reasons, refusals),
 )
 
