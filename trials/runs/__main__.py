@@ -2,13 +2,14 @@
 
 import sys
 
-from runs import answers, batches, commands, connections, decisions, files, help, lists, names, numbers
-from runs import options, paths, purges, reasons, refusals, rights, rows, sequences, streams, sweeps, vaults
-from runs import words
+from runs import answers, batches, commands, connections, decisions, files, heads, help, lists, merchants
+from runs import names, numbers, options, paths, pieces, purges, reasons, refusals, rights, rows, sequences
+from runs import streams, sweeps, vaults, words
 from shared.masked import MaskedTally
 
 SUBJECTS = (
     *(answers, sequences, connections, commands, batches, rows, files, paths, rights, lists),
+    *(heads, pieces, merchants),
     *(sweeps, purges, streams, words, options, help, reasons, refusals),
     *(numbers, names, decisions, vaults),
 )
