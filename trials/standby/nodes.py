@@ -23,7 +23,9 @@ ACCELERATOR = os.environ.get("ACCELERATOR", "tcg,thread=multi")
 KERNEL = "root=/dev/vda rw console=ttyS0 net.ifnames=0 quiet mitigations=off no_timer_check"
 SSH = (
     *("ssh", "-i", "key", "-o", "StrictHostKeyChecking=no", "-o", "UserKnownHostsFile=/dev/null"),
-    *("-o", "LogLevel=ERROR", "-o", "ConnectTimeout=20", "-o", "ServerAliveInterval=5"),
+    # an emulated machine may say nothing for a while
+    *("-o", "LogLevel=ERROR", "-o", "ConnectTimeout=20", "-o", "ServerAliveInterval=10"),
+    *("-o", "ServerAliveCountMax=6"),
 )
 
 
@@ -129,7 +131,8 @@ class Node:
             raise Refused(f"{self.name}: {command[:80]}: no end in {seconds} s") from None
         # ssh itself ends with 255, where the command wasn't asked or its end isn't known
         if ran.returncode == 255 or (well and ran.returncode != 0):
-            raise Refused(f"{self.name}: {command[:80]}: {(ran.stdout + ran.stderr)[-400:]}")
+            said = f"ended with {ran.returncode}: {(ran.stdout + ran.stderr)[-400:]}"
+            raise Refused(f"{self.name}: {command[:80]}: {said}")
         return ran.stdout
 
     def says(self, command):
