@@ -1,8 +1,6 @@
-//! Vaults over databases: worked cases, stops, and files of older schemas.
-mod fresh;
+//! Vaults over databases that are stopped, and files of older schemas.
 mod moved;
 mod over;
-mod rows;
 mod sent;
 mod sent_again;
 mod sessions;
