@@ -2,16 +2,16 @@
 
 import sys
 
-from runs import answers, batches, commands, connections, decisions, files, heads, help, lists, merchants
-from runs import names, numbers, options, paths, pieces, purges, reasons, refusals, rights, rows, sequences
-from runs import streams, sweeps, vaults, words
+from runs import answers, batches, commands, connections, decisions, files, fresh, heads, help, lists
+from runs import merchants, moves, names, numbers, options, paths, pieces, purges, reasons, refusals, rights
+from runs import rows, sequences, streams, sweeps, tokens, vaults, words
 from shared.masked import MaskedTally
 
 SUBJECTS = (
     *(answers, sequences, connections, commands, batches, rows, files, paths, rights, lists),
     *(heads, pieces, merchants),
     *(sweeps, purges, streams, words, options, help, reasons, refusals),
-    *(numbers, names, decisions, vaults),
+    *(numbers, names, decisions, vaults, tokens, fresh, moves),
 )
 
 

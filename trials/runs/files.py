@@ -152,6 +152,7 @@ def judge_new(tally, program):
     case = begun(tally, program, "a file without a byte is made and that is said", "files/blank")
     Path(case.file).touch()
     case.said(MIGRATED)
+    case.ends(EMPTY)
 
 
 def judge_names(tally, program):

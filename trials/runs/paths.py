@@ -35,7 +35,9 @@ CASES = {
 run a: CREATE TABLE notes (line TEXT) = changed
 check a = 33
 migrate a = 33
-open a = 33""",
+open a = 33
+run a: DROP TABLE notes = changed
+check a = sound 0 0 0""",
     "a new file is its owner's alone, and a check makes none": """\
 open a = opened
 check a = sound 0 0 0

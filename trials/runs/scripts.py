@@ -6,18 +6,22 @@ withdraw CALLER MERCHANT RIGHT NOW          tokenize CALLER MERCHANT REQUEST USE
 audit CALLER MERCHANT NOW                   detokenize, view, revoke or purge CALLER MERCHANT TOKEN NOW
 made MERCHANT                               how many tokens its rows are
 dead CALLER MERCHANT NOW                    how many a sweep of a copy purges, and which
-check                                       what the program's check says
+check, migrate or pipe                      what that says, or how it refuses the file
+run SQL                                     changes the file by Python's sqlite3
+number SQL                                  the number that sqlite3 reads of a copy, or `none`
 """
 
 import itertools
 import json
+import sqlite3
 from pathlib import Path
 
+from runs import paths
 from shared import messages, rows, shop
 from shared.commands import TARGETS
 from shared.files import copied
 from shared.rules import RIGHTS
-from shared.runs import run
+from shared.runs import run, side_by_side
 from shared.tally import unlike
 
 # The words of an answer, by a member that no other kind of answer has.
@@ -105,9 +109,19 @@ def dead(program, file, caller, merchant, now):
     return " ".join((many, *sorted(purged_in(copy) - purged_in(file))))
 
 
-def check(program, file):
-    """What a check says of a file."""
-    return said(program, "check", file)
+def changed(_, file, *words):
+    """Statements of SQL are run over a file."""
+    return paths.changed(file, " ".join(words))
+
+
+def number(_, file, *words):
+    """The number that a query shows of a copy, so that the file keeps its log; `none` where it has no row."""
+    conn = sqlite3.connect(copied(Path(file), Path(f"{file}-read")))
+    try:
+        found = conn.execute(" ".join(words)).fetchone()
+    finally:
+        conn.close()
+    return str(found[0]) if found else "none"
 
 
 # What answers a line that asks by no message, by its first word.
@@ -118,7 +132,11 @@ OTHERS = {
     "withdraw": was_withdrawn,
     "made": made,
     "dead": dead,
-    "check": check,
+    "check": paths.checked,
+    "migrate": paths.moved,
+    "pipe": paths.opened,
+    "run": changed,
+    "number": number,
 }
 
 
@@ -142,7 +160,7 @@ def answers(program, file, lines):
 
 def faults(program, file, lines):
     """The questions of a script, each with its fault if it has one."""
-    pairs = [line.split(" = ") for line in lines]
+    pairs = [line.rsplit(" = ", 1) for line in lines]
     found = answers(program, file, [question for question, _ in pairs])
     every = zip(pairs, itertools.chain(found, itertools.repeat("nothing")))
     return [(question, unlike(answer, wanted)) for (question, wanted), answer in every]
@@ -152,3 +170,19 @@ def follow(case, lines):
     """Each line of a script is answered over the case's file as it says."""
     for question, fault in faults(case.program, case.file, lines):
         case.judge(question, fault)
+
+
+def judge_each(tally, program, folder, cases, make=None):
+    """Each case is a script by its name, over a file of its own; that is made first, or isn't there."""
+    Path(folder).mkdir()
+
+    def tried(numbered):
+        place, text = numbered
+        file = f"{folder}/{place}.db"
+        if make:
+            make(file)
+        return faults(program, file, text.splitlines())
+
+    for name, found in zip(cases, side_by_side(tried, enumerate(cases.values()))):
+        for question, fault in found:
+            tally.judge(f"{name}, {question}", fault)

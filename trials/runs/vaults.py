@@ -1,10 +1,7 @@
 """Lists of commands over a file, with tokens and moments worked out by hand."""
 
-from pathlib import Path
-
 from runs import scripts
 from shared.cards import completed
-from shared.runs import side_by_side
 
 OPENED = "open till-1 shop1 60 0 1000 = done"
 FIRST = "tokenize till-1 shop1 7 single 4111111111111111 0 1000 = 0000000000001111 1060"
@@ -40,11 +37,15 @@ grant till-1 shop2 purge 1000 = done
 grant till-1 shop2 audit 1000 = done
 made shop1 = 0
 made shop2 = 0""",
+    # the last two candidates pass the check
     "a taken candidate is not drawn again, and a repeat answers the first token": f"""\
 {OPENED}
 {FIRST}
 tokenize till-1 shop1 8 single 4111111111111111 0 1000 = refused 12
 tokenize till-1 shop1 7 single 4111111111111111 5 1000 = 0000000000001111 1060
+tokenize till-1 shop1 9 single 0000000000 0 1000 = refused 12
+tokenize till-1 shop1 10 single 6304000000000000000 0 1000 = refused 12
+audit till-1 shop1 1000 = 1 0 0
 made shop1 = 1""",
     "a request number that was used otherwise is refused": f"""\
 {OFFERED}
@@ -52,6 +53,7 @@ made shop1 = 1""",
 tokenize till-1 shop1 7 single 4222222222222 0 1000 = refused 10
 tokenize till-1 shop2 7 single 4111111111111111 0 1000 = refused 10
 tokenize till-1 shop1 7 multi 4111111111111111 0 1000 = refused 10
+audit till-1 shop1 1000 = 1 0 0
 made shop1 = 1""",
     "a live multi-use token is given again": f"""\
 {OFFERED}
@@ -65,15 +67,21 @@ made shop1 = 1""",
 tokenize till-1 shop1 2 multi 4111111111111111 1 1099 = 0000000000001111 1100
 tokenize till-1 shop1 3 multi 4111111111111111 1 1100 = 1111111111111111 1200
 made shop1 = 2""",
-    "a revoked multi-use token is drawn anew": f"""\
+    "a revoked multi-use token is drawn anew, and again once the new one has expired": f"""\
 {OFFERED}
 {MULTI}
 tokenize till-1 shop1 2 multi 4111111111111111 1 1010 = 0000000000001111 1100
 audit till-1 shop1 1000 = 1 0 0
+audit till-1 shop1 1010 = 1 0 0
 revoke till-1 shop1 0000000000001111 1020 = done
 tokenize till-1 shop1 3 multi 4111111111111111 1 1030 = 1111111111111111 1130
 audit till-1 shop1 1000 = 2 0 0
-made shop1 = 2""",
+audit till-1 shop1 1030 = 2 0 0
+made shop1 = 2
+tokenize till-1 shop1 4 multi 4111111111111111 2 1129 = 1111111111111111 1130
+tokenize till-1 shop1 5 multi 4111111111111111 2 1130 = 2222222222221111 1230
+revoke till-1 shop1 0000000000001111 1200 = done
+view till-1 shop1 0000000000001111 1200 = 411111******1111 multi 1000 1100 revoked""",
     "a moment never falls with the clock": f"""\
 {OPENED}
 tokenize till-1 shop1 7 single 4111111111111111 0 2000 = 0000000000001111 2060
@@ -89,8 +97,10 @@ made shop1 = 0""",
 {FIRST}
 detokenize till-1 shop1 0000000000001111 1059 = 4111111111111111
 audit till-1 shop1 1000 = 1 1 0
+audit till-1 shop1 1059 = 1 1 0
 detokenize till-1 shop1 0000000000001111 1060 = refused 16
 audit till-1 shop1 1000 = 1 1 1
+audit till-1 shop1 1060 = 1 1 1
 made shop1 = 1""",
     "a token that expired does not live again when the clock falls": """\
 open till-1 shop1 800 0 1000 = done
@@ -109,7 +119,9 @@ detokenize till-1 shop1 1111111111111111 1000 = refused 13
 audit till-1 shop1 1000 = 1 0 2
 detokenize till-1 nobody 0000000000001111 1000 = refused 7
 audit till-1 shop1 1000 = 1 0 2
-made shop2 = 1""",
+made shop2 = 1
+tokenize till-1 shop2 9 single 4111111111111111 0 1000 = 0000000000001111 1060
+audit till-1 shop2 1000 = 2 0 0""",
     "another merchant may have the same token": f"""\
 {OPENED}
 open till-1 shop2 60 0 1000 = done
@@ -234,14 +246,5 @@ LONG = {
 
 def judged(tally, program):
     """Each script has a file of its own."""
-    Path("vaults").mkdir()
-    every = {name: text.splitlines() for name, text in CASES.items()}
-    every |= {name: list(lines()) for name, lines in LONG.items()}
-
-    def tried(numbered):
-        place, lines = numbered
-        return scripts.faults(program, f"vaults/{place}.db", lines)
-
-    for name, faults in zip(every, side_by_side(tried, enumerate(every.values()))):
-        for question, fault in faults:
-            tally.judge(f"{name}, {question}", fault)
+    every = CASES | {name: "\n".join(lines()) for name, lines in LONG.items()}
+    scripts.judge_each(tally, program, "vaults", every)

@@ -45,57 +45,24 @@ fn token(line: &str, place: usize) -> Option<Token> {
     Token::read(word(line, place)?.as_bytes()).ok()
 }
 
-/// The lead at a place of a line; six, where the line ends before it.
-fn lead(line: &str, place: usize) -> Option<Lead> {
-    match word(line, place) {
-        Some(_) => Lead::of(number(line, place)?),
-        None => Some(Lead::Six),
-    }
-}
-
-/// The end of a right at a place of a line; none, where the line ends before it.
-fn until(line: &str, place: usize) -> Option<Option<Moment>> {
-    match word(line, place) {
-        Some(_) => Some(Some(moment(line, place)?)),
-        None => Some(None),
-    }
-}
-
-/// `set MERCHANT SINGLE MULTI NOW [LEAD]`, where the lead is 6 or 8.
+/// `set MERCHANT SINGLE MULTI NOW`, with the lead of six digits.
 fn set(line: &str) -> Option<Command> {
     Some(Command::SetMerchant {
         merchant: merchant(line, 1)?,
         single_life: number(line, 2)?,
         multi_life: number(line, 3)?,
-        lead: lead(line, 5)?,
+        lead: Lead::Six,
         now: moment(line, 4)?,
     })
 }
 
-/// The caller, the merchant and the right of a `grant` or a `withdraw`.
-fn granted(line: &str) -> Option<(Caller, MerchantId, Right)> {
-    Some((caller(line, 1)?, merchant(line, 2)?, right(line, 3)?))
-}
-
-/// `grant CALLER MERCHANT RIGHT NOW [UNTIL]`.
+/// `grant CALLER MERCHANT RIGHT NOW`, for good.
 fn grant(line: &str) -> Option<Command> {
-    let (caller, merchant, right) = granted(line)?;
     Some(Command::Grant {
-        caller,
-        merchant,
-        right,
-        until: until(line, 5)?,
-        now: moment(line, 4)?,
-    })
-}
-
-/// `withdraw CALLER MERCHANT RIGHT NOW`.
-fn withdraw(line: &str) -> Option<Command> {
-    let (caller, merchant, right) = granted(line)?;
-    Some(Command::Withdraw {
-        caller,
-        merchant,
-        right,
+        caller: caller(line, 1)?,
+        merchant: merchant(line, 2)?,
+        right: right(line, 3)?,
+        until: None,
         now: moment(line, 4)?,
     })
 }
@@ -171,7 +138,6 @@ pub fn asked(line: &str) -> Option<Command> {
     match word(line, 0)? {
         "set" => set(line),
         "grant" => grant(line),
-        "withdraw" => withdraw(line),
         "tokenize" => tokenize(line),
         "audit" => audit(line),
         _ => on_token(line),

@@ -1,8 +1,7 @@
-//! Vaults over databases: worked cases, stops, and files of older schemas.
-mod fresh;
+//! Vaults over databases: lists of dead tokens, stops, and files of older schemas.
+mod listed;
 mod moved;
 mod over;
-mod rows;
 mod sent;
 mod sent_again;
 mod sessions;

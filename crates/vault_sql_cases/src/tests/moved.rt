@@ -1,6 +1,6 @@
-//! Files of older schemas: refused, moved to the newest schema, and stopped while they move.
+//! Files of schema 1: moved version by version, and stopped while they move.
 use super::over::Step;
-use super::steps::{TestDisk, all_done, are_told, done, is_told, no_files, tell};
+use super::steps::{TestDisk, all_done, done, is_told, no_files};
 use super::stops::{Trial, is_whole_where_stopped};
 use sqlite::Files;
 use std::alloc::Global;
@@ -8,7 +8,6 @@ use vault_schema::v1::{
     CREATE_COUNTS, CREATE_ENTRIES, CREATE_ENTRIES_NUMBER, CREATE_MERCHANTS, CREATE_RECORDS,
     CREATE_RIGHTS, CREATE_VAULT,
 };
-use vault_schema::{v2, v3};
 
 /// What makes the tables of schema 1.
 const FIRST_TABLES: [&str; 7] = [
@@ -51,102 +50,6 @@ fn older(alloc: Global) -> (String, Files<TestDisk>) {
     all_done(alloc, files, MADE.as_slice())
 }
 
-/// Whether files of schema 1 are refused, and steps over them then tell this.
-fn are_moved(rt: &HostRuntime, steps: &[Step<'_>], wanted: &str) -> bool {
-    let (told, files) = older(rt.alloc());
-    is_told(rt, told.as_str(), REFUSED) && tell(rt, files, steps, wanted)
-}
-
-/// The files move, and move again; then the tokens of one number are purged.
-const NUMBERS: [Step<'static>; 21] = [
-    Step::Migrate,
-    Step::Check,
-    Step::Number("SELECT uses FROM cards2 WHERE merchant = 'shop1'"),
-    Step::Number("SELECT uses FROM cards2 WHERE merchant = 'shop2'"),
-    Step::Number("SELECT count(*) FROM entries"),
-    Step::Number("SELECT count(*) FROM entries2 WHERE card IS NULL"),
-    Step::Number("SELECT count(*) FROM merchants"),
-    Step::Number("SELECT count(*) FROM merchants3 WHERE lead_digits = 6"),
-    Step::Number("SELECT count(*) FROM rights"),
-    Step::Number("SELECT count(*) FROM rights4 WHERE ends IS NULL"),
-    Step::Migrate,
-    Step::Check,
-    Step::Number("SELECT total FROM counts WHERE merchant = 'shop1' AND kind = 2"),
-    Step::Number("SELECT total FROM counts WHERE merchant = 'shop1' AND kind = 3"),
-    Step::Ask("view till-1 shop1 0000000000001111 1000 = 411111******1111 single 1000 1060 live"),
-    Step::Ask("tokenize till-1 shop1 1 single 4111111111111111 5 1001 = 0000000000001111 1060"),
-    Step::Ask("purge till-1 shop1 0000000000001111 1060 = done"),
-    Step::Number("SELECT uses FROM cards2 WHERE merchant = 'shop1'"),
-    Step::Ask("purge till-1 shop1 1111111111111111 1060 = done"),
-    Step::Number("SELECT uses FROM cards2 WHERE merchant = 'shop1'"),
-    Step::Check,
-];
-
-#[test]
-fn each_number_stands_once_a_merchant_after_the_move(rt: HostRuntime) {
-    let wanted = "schema 4; sound 2 4 4; 2; 1; 0; 1; 0; 2; 0; 2; schema 4; sound 2 4 4; \
-        5; 2; answered; answered; answered; 1; answered; none; sound 2 4 4; ";
-    assert!(rt; are_moved(&rt, NUMBERS.as_slice(), wanted));
-}
-
-/// The same rows in the tables of schema 2.
-const CARDS: &str = "\
-INSERT INTO cards2 VALUES (1, 'shop1', '4111111111111111', 2), (2, 'shop2', '4111111111111111', 1);
-INSERT INTO entries2 VALUES ('shop1', '0000000000001111', 1, 1, 1000, 1060, NULL),
-('shop1', '1111111111111111', 1, 1, 1000, 1060, NULL),
-('shop1', '2222222222221111', NULL, 1, 1000, 1060, 1000),
-('shop2', '1111111111111111', 2, 1, 1000, 1060, NULL)";
-
-/// The files get the schema 2 by statements, are refused, and move.
-const SECOND: [Step<'static>; 10] = [
-    Step::Change(v2::CREATE_CARDS),
-    Step::Change(v2::CREATE_ENTRIES),
-    Step::Change(v2::CREATE_ENTRIES_CARD),
-    Step::Change(CARDS),
-    Step::Change(v2::EMPTY_ENTRIES),
-    Step::Change(v2::SET_VERSION),
-    Step::Check,
-    Step::Migrate,
-    Step::Check,
-    Step::Number("SELECT count(*) FROM merchants3 WHERE lead_digits = 6"),
-];
-
-#[test]
-fn a_file_of_schema_2_moves(rt: HostRuntime) {
-    let wanted =
-        "changed; changed; changed; changed; changed; changed; 30 2; schema 4; sound 2 4 4; 2; ";
-    assert!(rt; are_moved(&rt, SECOND.as_slice(), wanted));
-}
-
-/// The files get the schema 3 by statements, are refused, also where a lead is none, and move with their
-/// leads.
-const THIRD: [Step<'static>; 17] = [
-    Step::Change(v2::CREATE_CARDS),
-    Step::Change(v2::CREATE_ENTRIES),
-    Step::Change(v2::CREATE_ENTRIES_CARD),
-    Step::Change(CARDS),
-    Step::Change(v2::EMPTY_ENTRIES),
-    Step::Change(v3::CREATE_MERCHANTS),
-    Step::Change(v3::COPY_MERCHANTS),
-    Step::Change(v3::EMPTY_MERCHANTS),
-    Step::Change(v3::SET_VERSION),
-    Step::Check,
-    Step::Change("UPDATE merchants3 SET lead_digits = 7 WHERE name = 'shop2'"),
-    Step::Migrate,
-    Step::Change("UPDATE merchants3 SET lead_digits = 8 WHERE name = 'shop2'"),
-    Step::Migrate,
-    Step::Check,
-    Step::Number("SELECT lead_digits FROM merchants3 WHERE name = 'shop2'"),
-    Step::Number("SELECT count(*) FROM rights4 WHERE ends IS NULL"),
-];
-
-#[test]
-fn a_file_of_schema_3_moves_with_its_leads(rt: HostRuntime) {
-    let wanted = "changed; changed; changed; changed; changed; changed; changed; changed; changed; \
-        30 3; changed; 31 14; changed; schema 4; sound 2 4 4; 8; 2; ";
-    assert!(rt; are_moved(&rt, THIRD.as_slice(), wanted));
-}
-
 /// The files move one version up, and are refused by it until they have the newest.
 const UPS: [Step<'static>; 7] = [
     Step::Up,
@@ -158,32 +61,19 @@ const UPS: [Step<'static>; 7] = [
     Step::Up,
 ];
 
+/// What they tell on the way.
+const ON_THE_WAY: &str = "schema 2; 30 2; schema 3; 30 3; schema 4; sound 2 4 4; schema 4; ";
+
+/// Whether files of schema 1 are refused, and tell this on their way.
+fn go_up(rt: &HostRuntime) -> bool {
+    let (told, base) = older(rt.alloc());
+    let (on_the_way, _files) = all_done(rt.alloc(), base, UPS.as_slice());
+    is_told(rt, told.as_str(), REFUSED) && is_told(rt, on_the_way.as_str(), ON_THE_WAY)
+}
+
 #[test]
 fn a_file_moves_one_version_at_a_time(rt: HostRuntime) {
-    let wanted = "schema 2; 30 2; schema 3; 30 3; schema 4; sound 2 4 4; schema 4; ";
-    assert!(rt; are_moved(&rt, UPS.as_slice(), wanted));
-}
-
-/// An empty file moves, and moves again.
-const EMPTY: [Step<'static>; 3] = [Step::Migrate, Step::Check, Step::Migrate];
-
-#[test]
-fn an_empty_file_moves_to_the_newest_schema(rt: HostRuntime) {
-    assert!(rt; are_told(&rt, EMPTY.as_slice(), "schema 4; sound 0 0 0; schema 4; "));
-}
-
-/// Files of schema 1 are damaged, and then get another version.
-const DAMAGED: [Step<'static>; 5] = [
-    Step::Change("UPDATE entries SET birth = 1001 WHERE token = '0000000000001111'"),
-    Step::Migrate,
-    Step::Change("UPDATE vault SET version = 7"),
-    Step::Migrate,
-    Step::Number("SELECT count(*) FROM entries"),
-];
-
-#[test]
-fn a_damaged_file_of_schema_1_stays_as_it_is(rt: HostRuntime) {
-    assert!(rt; are_moved(&rt, DAMAGED.as_slice(), "changed; 31 7; changed; 30 7; 4; "));
+    assert!(rt; go_up(&rt));
 }
 
 /// The move, and a check after the crash: the files are in one of the schemas on their way.

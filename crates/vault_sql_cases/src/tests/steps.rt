@@ -69,14 +69,3 @@ pub fn is_told(rt: &HostRuntime, told: &str, wanted: &str) -> bool {
     let _ = println!(rt; "{told}");
     false
 }
-
-/// Whether steps over files tell this.
-pub fn tell(rt: &HostRuntime, files: Files<TestDisk>, steps: &[Step<'_>], wanted: &str) -> bool {
-    let (told, _files) = all_done(rt.alloc(), files, steps);
-    is_told(rt, told.as_str(), wanted)
-}
-
-/// Whether steps over files without a byte tell this.
-pub fn are_told(rt: &HostRuntime, steps: &[Step<'_>], wanted: &str) -> bool {
-    tell(rt, no_files(rt.alloc()), steps, wanted)
-}
