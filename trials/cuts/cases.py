@@ -68,12 +68,11 @@ def full(shop):
     rows.write(shop.path, rows.lowered(found, 3), 3)
     shop.known.reset(rows.lowered(found, 3))
     must(shop.program, "migrate", shop.path)
-    faults, sizes = [], []
-    for _ in range(2):
-        faults += jobs.dying(shop, 5)
+    faults, sizes = jobs.dying(shop, 3), [log_of(shop.path).stat().st_size]
+    while len(sizes) == 1 or sizes[-1] + 3 * (sizes[-1] - sizes[0]) // (len(sizes) - 1) < LOG:
+        faults += jobs.dying(shop, 3)
         sizes.append(log_of(shop.path).stat().st_size)
-    rows_left = (LOG - sizes[1]) * 5 // (sizes[1] - sizes[0])
-    return faults + jobs.dying(shop, rows_left - 6)
+    return faults
 
 
 def over(story, disk, path, many, more):

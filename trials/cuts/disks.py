@@ -29,7 +29,7 @@ BTRFS, RESCUE = ("mkfs.btrfs", "-q", "-f", "-K"), ("btrfs", "rescue", "super-rec
 SYSTEMS = {
     it.name: it
     for it in (
-        System("ext4", 64 << 20, EXT4, "loop", ("e2fsck", "-fy")),
+        System("ext4", 160 << 20, EXT4, "loop", ("e2fsck", "-fy")),
         System("xfs", 300 << 20, XFS, "loop,nouuid", ("xfs_repair", "-L")),
         System("btrfs", 256 << 20, BTRFS, "loop", RESCUE),
     )
@@ -56,16 +56,24 @@ def umount(folder):
         subprocess.run(["umount", "--lazy", folder], capture_output=True)
 
 
+class Mount(NamedTuple):
+    """How a file was mounted: what the kernel said at last where it wasn't, and which tool mended it first."""
+
+    fault: str
+    mended: str
+
+
 @contextlib.contextmanager
 def mounted(system, image, folder):
-    """A file as a disk, for the time of a `with`; what was wrong with its file system."""
-    fault = mount_fault(system, image, folder)
+    """A file as a disk, for the time of a `with`. One that can't be mounted is mended first by its own tool."""
+    fault, mended = mount_fault(system, image, folder), ""
     if fault:
         subprocess.run([*system.repair, image], capture_output=True)
+        mended = system.repair[0]
         again = mount_fault(system, image, folder)
-        fault = f"not mounted: {fault}; after {system.repair[0]}: {again or 'mounted'}"
+        fault = again and f"not mounted: {fault}; after {mended}: {again}"
     try:
-        yield fault
+        yield Mount(fault, mended)
     finally:
         umount(folder)
 
@@ -122,9 +130,9 @@ def made(system, place, fill):
     with open(path, "wb") as file:
         file.truncate(system.size)
     must(*system.make, str(path))
-    with mounted(system, str(path), folder) as fault:
-        if fault:
-            raise SystemExit(f"a new disk: {fault}\n0 passed, 1 failed")
+    with mounted(system, str(path), folder) as mount:
+        if mount.fault or mount.mended:
+            raise SystemExit(f"a new disk: {mount.fault or 'mended'}\n0 passed, 1 failed")
         fill(folder)
     image = Image.read(path)
     os.unlink(path)

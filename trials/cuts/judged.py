@@ -28,10 +28,11 @@ class States:
 
     def judge_mounted(self, story, at, judge, steps, random):
         """The same, on its file system."""
-        with mounted(self.system, self.image, self.folder) as fault:
-            judge.check(fault, f"{self.system.name}: mounted")
+        with mounted(self.system, self.image, self.folder) as mount:
+            after = f" after {mount.mended}" if mount.mended else ""
+            judge.check(mount.fault, f"{self.system.name}: mounted{after}")
             path = self.folder / "vault" / story.name
-            if fault and "mounted" not in fault.rsplit(":", 1)[-1]:
+            if mount.fault:
                 return
             if story.kind == "made":
                 self.judge_made(story, at, judge, path)
@@ -41,12 +42,12 @@ class States:
     def settled(self, story, image, steps, random):
         """A shop of which is known what a state of a case holds, which is only read."""
         image.write(self.image)
-        with mounted(self.system, self.image, self.folder) as fault:
+        with mounted(self.system, self.image, self.folder) as mount:
             shop = story.shop_of(self.folder / "vault" / story.name, random)
             undecided = [command for step in steps for command in step.commands]
             moments = sorted({moment for step in steps for moment in step.moments})
             carried = shop.known.settle(undecided, moments, rows.read(shop.path)[1])
-            fault = fault or ("rows differ" if carried is None else "")
+            fault = mount.fault or ("rows differ" if carried is None else "")
         if fault:
             raise SystemExit(f"a state that is opened again: {fault}\n0 passed, 1 failed")
         return shop

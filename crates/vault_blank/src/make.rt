@@ -49,8 +49,8 @@ fn named<R: Files>(files: &R, name: &str) -> io::Result<Option<Metadata>> {
     }
 }
 
-/// Whether nothing has the name, in a folder that is there; or a file without a byte and without a log has it,
-/// or stands where a link of this name leads.
+/// Whether nothing has the name, in a folder that is there; or a file without a byte and without a log has
+/// it, or stands where a link of this name leads.
 fn has_no_byte<R: Files + Alloc>(rt: &R, path: &str) -> io::Result<bool> {
     if named(rt, path)?.is_none() {
         return Ok(fs::metadata(rt, folder_of(path))?.is_dir());

@@ -60,8 +60,8 @@ pub trait Paths: Drop {
     // it is said whether something stands in the log beside the file at a path
     ghost logs: { Self → List ℕ → Bool → Type 0 };
 
-    /// Whether nothing has the name, in a folder that is there, or a file without a byte and without a log has
-    /// it. It fails where memory is refused.
+    /// Whether nothing has the name, in a folder that is there, or a file without a byte and without a log
+    /// has it. It fails where memory is refused.
     fn is_empty(&self, rt: &HostRuntime, path: &str) -> Result<bool, AllocError>
         ensures { IfOk result (λ empty. IsTrue empty → lacks self.now path.now) };
 

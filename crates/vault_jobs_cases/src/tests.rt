@@ -1,4 +1,5 @@
-//! Worked cases of jobs and services, by clocks and with desks of the tests' own, and runs over files in memory.
+//! Worked cases of jobs and services, by clocks and with desks of the tests' own, and runs over files in
+//! memory.
 mod ahead;
 mod clocks;
 mod desks;

@@ -10,8 +10,8 @@ use std::marker::Model;
 
 /// A text of up to `N` bytes, which takes no memory. Contracts see the list of its bytes.
 ///
-/// Texts are compared byte by byte, and a text stands before each that it begins. There is no `Debug`: they may
-/// be a card number's.
+/// Texts are compared byte by byte, and a text stands before each that it begins. There is no `Debug`: they
+/// may be a card number's.
 #[derive(Clone, Copy)]
 pub struct Short<const N: usize> {
     cells: [u8; N],
