@@ -7,9 +7,10 @@ import time
 from shared.runs import until
 from standby.nodes import ADDRESS, NODES, Node, Refused, network, other
 
-# What an operator types once. Both disks are empty files here, and so they are the same already.
+# What an operator types once. Both disks are empty files here, and so they are the same already. An emulated
+# machine may take longer for a part of it than the five seconds that `drbdadm` waits.
 EACH = """pvcreate -q /dev/vdb && vgcreate -q vault /dev/vdb && lvcreate -q -W n -L 400M -n file vault &&
-drbdadm create-md --force vault && modprobe drbd && drbdadm up vault"""
+drbdadm create-md --force vault && modprobe drbd && { drbdadm up vault || { sleep 9; drbdadm adjust vault; }; }"""
 ONCE = """drbdadm -- --clear-bitmap new-current-uuid vault && drbdadm primary vault &&
 mkfs.ext4 -q /dev/drbd0 && mount /dev/drbd0 /var/lib/vault &&
 chown vault:vault /var/lib/vault && chmod 700 /var/lib/vault"""
