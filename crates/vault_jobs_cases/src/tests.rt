@@ -1,5 +1,4 @@
-//! Worked cases of jobs and services, by clocks and with desks of the tests' own, and runs over files in
-//! memory.
+//! Worked cases of jobs and services, by clocks and with desks of the tests' own.
 mod ahead;
 mod clocks;
 mod desks;
@@ -10,4 +9,3 @@ mod service;
 mod sweeps;
 mod tasks;
 mod trial;
-mod witness;

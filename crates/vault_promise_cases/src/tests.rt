@@ -1,0 +1,2 @@
+//! Runs over files in memory.
+mod witness;
