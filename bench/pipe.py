@@ -4,14 +4,15 @@ output. What run.py and batch.py have of it.
 
 import subprocess
 
-BODY = '{"number":"4111111111111111","use":"single"}'
+import cards
 
 
-def message(request):
-    """A message that asks for a single-use token, with this request number."""
+def message(request, number=None, use="single"):
+    """A message that asks for a token with this request number: of its own card, where none is named."""
+    body = f'{{"number":"{number or cards.number_of(request)}","use":"{use}"}}'
     return (
         "POST /v1/merchants/shop1/tokens HTTP/1.1\r\nHost: vault\r\nX-Vault-Caller: till-1\r\n"
-        f"X-Vault-Request: {request}\r\nContent-Length: {len(BODY)}\r\n\r\n{BODY}"
+        f"X-Vault-Request: {request}\r\nContent-Length: {len(body)}\r\n\r\n{body}"
     )
 
 

@@ -10,11 +10,10 @@
 
 static const char CALLER[] = "till-1";
 static const char MERCHANT[] = "shop1";
-static const char NUMBER[] = "4111111111111111";
 
 enum { MADE = 1, SINGLE = 1, TOKENIZE = 1, DIGITS = 11 };
 
-// A token: the drawn digits, one more, and the card's last four.
+// A token: the drawn digits, one more, and the card's last four. A card number has as many.
 enum { TOKEN = DIGITS + 1 + 4 };
 
 // The lives of a merchant, its moment and its lead.
@@ -22,8 +21,8 @@ struct lives {
     int64_t single_life, multi_life, moment, lead_digits;
 };
 
-// Whether digits pass the card check.
-static bool passes(const char *digits)
+// What the card check leaves of digits.
+static int remainder_of(const char *digits)
 {
     int total = 0;
     size_t length = strlen(digits);
@@ -31,19 +30,26 @@ static bool passes(const char *digits)
         int value = (digits[length - 1 - place] - '0') * (1 + (int)(place % 2));
         total += value > 9 ? value - 9 : value;
     }
-    return total % 10 == 0;
+    return total % 10;
+}
+
+// A card number, another one for each place below 10 to the ninth; they come in no order.
+static void card_for(int64_t place, char card[TOKEN + 1])
+{
+    snprintf(card, TOKEN + 1, "411111%09lld0", (long long)(place * 618033989 % 1000000000));
+    card[TOKEN - 1] = (char)('0' + (10 - remainder_of(card)) % 10);
 }
 
 // The first good candidate: the number's digits backwards, one more digit, and the card's last four.
-static void token_for(int64_t number, char token[TOKEN + 1])
+static void token_for(int64_t number, const char *card, char token[TOKEN + 1])
 {
     for (int place = 0; place < DIGITS; place++) {
         token[place] = (char)('0' + number % 10);
         number /= 10;
     }
     token[DIGITS] = '0';
-    memcpy(token + DIGITS + 1, NUMBER + strlen(NUMBER) - 4, 5);
-    if (passes(token))
+    memcpy(token + DIGITS + 1, card + TOKEN - 4, 5);
+    if (remainder_of(token) == 0)
         token[DIGITS] = '1';
 }
 
@@ -118,11 +124,11 @@ static void raise_count(int kind)
 }
 
 // The id of the number's card, or 0 where there is none; and its uses.
-static int64_t find_card(int64_t *uses)
+static int64_t find_card(const char *number, int64_t *uses)
 {
     int64_t found = 0;
     put_text(FIND_CARD, 1, MERCHANT);
-    put_text(FIND_CARD, 2, NUMBER);
+    put_text(FIND_CARD, 2, number);
     while (next_row(FIND_CARD)) {
         found = number_in(FIND_CARD, 0);
         *uses = number_in(FIND_CARD, 1);
@@ -131,9 +137,9 @@ static int64_t find_card(int64_t *uses)
 }
 
 // The id of the number's card, which is used once more.
-static int64_t use_card(void)
+static int64_t use_card(const char *number)
 {
-    int64_t uses = 0, card = find_card(&uses);
+    int64_t uses = 0, card = find_card(number, &uses);
     if (card != 0) {
         put_number(SET_USES, 1, card);
         put_number(SET_USES, 2, uses + 1);
@@ -141,9 +147,9 @@ static int64_t use_card(void)
         return card;
     }
     put_text(ADD_CARD, 1, MERCHANT);
-    put_text(ADD_CARD, 2, NUMBER);
+    put_text(ADD_CARD, 2, number);
     run(ADD_CARD);
-    return find_card(&uses);
+    return find_card(number, &uses);
 }
 
 // A new entry, of a card, that lives from the merchant's moment on. What is never bound is NULL: `revoked`.
@@ -168,16 +174,17 @@ static void add_record(int64_t request, const char *token)
     run(ADD_RECORD);
 }
 
-// One Tokenize: what it reads, and what it writes in one transaction.
+// One Tokenize of a card of its own: what it reads, and what it writes in one transaction.
 static void tokenize(int64_t request)
 {
-    char token[TOKEN + 1];
-    token_for(request, token);
+    char card[TOKEN + 1], token[TOKEN + 1];
+    card_for(request, card);
+    token_for(request, card, token);
     struct lives lives = read_all(request, token);
     run(BEGIN);
     set_lives(&lives);
     raise_count(MADE);
-    add_entry(token, use_card(), &lives);
+    add_entry(token, use_card(card), &lives);
     add_record(request, token);
     run(COMMIT);
 }

@@ -91,7 +91,7 @@ def raise_count(conn, kind):
         conn.execute(ADD_COUNT, (MERCHANT, kind))
 
 
-def write(conn, request, token, lives, number=NUMBER):
+def write(conn, request, token, lives, number):
     """What one Tokenize of a card number writes, in one transaction."""
     single_life, _, moment, _ = lives
     conn.execute("BEGIN")
@@ -104,8 +104,9 @@ def write(conn, request, token, lives, number=NUMBER):
 
 def tokenize_many(conn, first, many):
     for request in range(first, first + many):
-        token = cards.token_for(request, NUMBER)
-        write(conn, request, token, read(conn, request, token))
+        number = cards.number_of(request)
+        token = cards.token_for(request, number)
+        write(conn, request, token, read(conn, request, token), number)
 
 
 def microseconds(start):

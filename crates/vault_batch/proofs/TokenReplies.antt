@@ -20,6 +20,8 @@ use Rattle.vault_core.specs.declared.right.Right.TheVariants as right
 use Rattle.vault_core.specs.declared.row.Record.{Record}
 use Rattle.vault_core.specs.declared.usage.Use.{Use}
 use Rattle.vault_engine.specs.Asking.{Pair, Wanted, reply_to}
+use Rattle.vault_refusal.specs.declared.refusal.Refusal.{Refusal}
+use Rattle.vault_refusal.specs.declared.refusal.Refusal.TheVariants as refusal
 use Rattle.vault_batch.specs.Asking.{Wants}
 use Rattle.vault_batch.specs.Laws.{HasCells, RowsHaveLines}
 use Rattle.vault_batch.specs.Rows.{Row}
@@ -68,15 +70,15 @@ token_shows V a =
     (found_or (new_request V a) (plain_refusal V no_merchant) (merchant_at V a.merchant) (new_shows V a)
     (tt {0}))
 
-refusal_shows : (V : Content) (n : ℕ) (r : Wanted) → r ≡ Err n → HasCells (reply_to V r)
+refusal_shows : (V : Content) (n : Refusal) (r : Wanted) → r ≡ Err n → HasCells (reply_to V r)
 refusal_shows V n r e = subst (λ w. HasCells (reply_to V w)) (sym e) (tt {0})
 
-must_shows : (V : Content) (n : ℕ) (r : Wanted) {P G : Type 0} → (G → HasCells (reply_to V r))
+must_shows : (V : Content) (n : Refusal) (r : Wanted) {P G : Type 0} → (G → HasCells (reply_to V r))
     → (P × G) ⊎ ((¬ P) × (r ≡ Err n)) → HasCells (reply_to V r)
 must_shows V n r f (inl q) = f q.1
 must_shows V n r f (inr q) = refusal_shows V n r q.1
 
-with_shows : (V : Content) (n : ℕ) (r : Wanted) {P G : Use → Type 0}
+with_shows : (V : Content) (n : Refusal) (r : Wanted) {P G : Use → Type 0}
     → ((u : Use) → G u → HasCells (reply_to V r))
     → ((u : Use) × P u × G u) ⊎ (((u : Use) → ¬ P u) × (r ≡ Err n)) → HasCells (reply_to V r)
 with_shows V n r f (inl q) = f q.0 q.2
@@ -94,8 +96,8 @@ wants_show : (who : Asker) (row : Row) (pair : Pair) (r : Wanted) (V : Content)
     → Wants who row pair r → HasCells (reply_to V r)
 unfolding request
 wants_show who row pair r V w =
-    must_shows V 5 r (must_shows V 1 r (must_shows V 2 r
-    (with_shows V 19 r (λ u e. asked_shows V (request who row pair u) r e)))) w
+    must_shows V refusal.BadRequestNumber r (must_shows V refusal.BadNumber r (must_shows V refusal.BadCheck r
+    (with_shows V refusal.BadUse r (λ u e. asked_shows V (request who row pair u) r e)))) w
 
 pub rows_show : RowsHaveLines
 rows_show who x V asks = wants_show who x.unit x.pair x.wanted V asks

@@ -1,5 +1,5 @@
--- What a row asks for: a command, or the number of the first refusal that applies.
-use Rattle.std.specs.Prelude.{◌≡◌, ◌==◌, codes, true, Ok, Err, if◌then◌else◌}
+-- What a row asks for: a command, or the first refusal that applies.
+use Rattle.std.specs.Prelude.{◌≡◌, codes, true, Ok, Err}
 use Rattle.std.specs.Str.Parse.{digits_value}
 use Rattle.vault_pan.specs.CardText.{IsCardText, IsNumber, digits_of}
 use Rattle.vault_pan.specs.Luhn.{passes_check}
@@ -10,7 +10,6 @@ use Rattle.vault_core.specs.declared.command.Command.TheVariants.{Tokenize}
 use Rattle.vault_core.specs.declared.usage.Use.{Use}
 use Rattle.vault_refusal.specs.declared.refusal.Refusal.TheVariants.{BadRequestNumber, BadNumber, BadCheck}
 use Rattle.vault_refusal.specs.declared.refusal.Refusal.TheVariants.{BadUse}
-use Rattle.vault_core.specs.Refusals.{bad_request_number}
 use Rattle.vault_core.specs.declared.reply.Reply.{Reply}
 use Rattle.vault_engine.specs.Asking.{Kind, Pair, Wanted, kind}
 use Rattle.vault_engine.specs.Asking as engine
@@ -33,8 +32,8 @@ Wants who row pair =
 
 -- a row's request as its line has it: as it came, and as 0 where it is none, which is refused before all else
 abbrev pub request_text : Row → Wanted → Bytes
-request_text row (Ok c) = row.request
-request_text row (Err n) = if n == bad_request_number then codes "0" else row.request
+request_text row (Err BadRequestNumber) = codes "0"
+request_text row other = row.request
 
 -- the line that answers a row which asks for this and is replied to so
 abbrev pub answer_line : Row → Wanted → Reply → Bytes

@@ -13,6 +13,7 @@ use vault_core::request::RequestNo;
 use vault_core::usage::Use;
 use vault_pan::draw::Digits;
 use vault_pan::pan::Pan;
+use vault_refusal::refusal::Refusal;
 
 /// A row: the texts of its three fields.
 #[derive(Clone, Copy)]
@@ -43,15 +44,20 @@ impl<'a> Row<'a> {
     /// What the row asks for, at a moment and with drawn digits.
     ///
     /// Refusals, the first that applies: 5 BadRequestNumber, 1 BadNumber, 2 BadCheck, 19 BadUse.
-    pub(crate) fn command(self, asker: Asker, now: Moment, digits: Digits) -> Result<Command, u8>
-        // it is what the row asks for: a command, or the number of the first refusal that applies
+    pub(crate) fn command(
+        self,
+        asker: Asker,
+        now: Moment,
+        digits: Digits,
+    ) -> Result<Command, Refusal>
+        // it is what the row asks for: a command, or the first refusal that applies
         ensures wanted { Wants asker (row_of self.entry) (now, digits) result }
         // the lives that its command sets, if any, are in range
         ensures proper { AreProper result }
     {
-        let request = RequestNo::read(self.request).map_err(|refused| refused.number())?;
-        let pan = Pan::read(self.number).map_err(|fault| fault.refusal().number())?;
-        let usage = Use::read(self.usage).map_err(|refused| refused.number())?;
+        let request = RequestNo::read(self.request)?;
+        let pan = Pan::read(self.number)?;
+        let usage = Use::read(self.usage)?;
         Ok(Command::Tokenize {
             caller: asker.caller,
             merchant: asker.merchant,

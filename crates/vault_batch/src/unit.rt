@@ -35,7 +35,7 @@ impl<'a> Unit for AskedRow<'a> {
         _alloc: Global,
         now: Moment,
         digits: Digits,
-    ) -> Result<Result<Command, u8>, AllocError> {
+    ) -> Result<Result<Command, Refusal>, AllocError> {
         Ok(self.row.command(self.asker, now, digits))
     }
 
@@ -43,9 +43,9 @@ impl<'a> Unit for AskedRow<'a> {
         line(alloc, self.row.request, r)
     }
 
-    fn refused(&self, alloc: Global, number: u8) -> Result<Vec<u8>, AllocError> {
-        let reply = Reply::Refused(number);
-        if number == Refusal::BadRequestNumber.number() {
+    fn refused(&self, alloc: Global, refusal: Refusal) -> Result<Vec<u8>, AllocError> {
+        let reply = Reply::Refused(refusal.number());
+        if refusal == Refusal::BadRequestNumber {
             line(alloc, b"0", &reply)
         } else {
             line(alloc, self.row.request, &reply)

@@ -7,8 +7,8 @@ use std::{env, io};
 use vault_app::desk::HostDesk;
 use vault_app::run::{no_words, run};
 use vault_file::host::HostPaths;
+use vault_listen::limits::Limits;
 use vault_listen::network::Loopback;
-use vault_listen::peer::Limits;
 use vault_listen::time::ClockTime;
 use vault_wire::watched::Watched;
 

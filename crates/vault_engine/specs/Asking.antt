@@ -8,14 +8,16 @@ use Rattle.vault_core.specs.Vault.{Vault as Content}
 use Rattle.vault_core.specs.declared.command.Command.{Command}
 use Rattle.vault_core.specs.declared.reply.Reply.{Reply}
 use Rattle.vault_core.specs.declared.reply.Reply.TheVariants.{Refused}
+use Rattle.vault_refusal.specs.Refusal.{number_of}
+use Rattle.vault_refusal.specs.declared.refusal.Refusal.{Refusal}
 
 -- a moment, and drawn digits
 abbrev pub Pair : Type 0
 Pair = ℕ × List ℕ
 
--- a command, or the number of a refusal
+-- a command, or a refusal
 abbrev pub Wanted : Type 0
-Wanted = Result Command ℕ
+Wanted = Result Command Refusal
 
 -- a command that is wanted is proper
 abbrev pub AreProper : Wanted → Type 0
@@ -61,7 +63,7 @@ left_by V (Err n) = V
 -- a command is answered by the vault, and a refusal by its number
 abbrev pub reply_to : Content → Wanted → Reply
 reply_to V (Ok c) = reply V c
-reply_to V (Err n) = Refused n
+reply_to V (Err refusal) = Refused (number_of refusal)
 
 -- the text that answers one, by how units of its kind are answered
 unfoldable pub text_at : {X : Type 0} → (X → Wanted → Reply → List ℕ) → Content → Asked X → List ℕ

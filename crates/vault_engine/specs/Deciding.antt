@@ -3,6 +3,7 @@ use Rattle.std.specs.Prelude.{◌≡◌, Ok, Err}
 use Rattle.vault_core.specs.Vault.{Vault as Content}
 use Rattle.vault_core.specs.declared.reply.Reply.{Reply}
 use Rattle.vault_core.specs.declared.reply.Reply.TheVariants as reply
+use Rattle.vault_refusal.specs.Refusal.{number_of}
 use Rattle.vault_engine.specs.Asking.{Kind, Pair, Wanted, left_by, reply_to}
 use Rattle.vault_engine.specs.declared.ask.Outcome.{Outcome}
 use Rattle.vault_engine.specs.declared.ask.Outcome.TheVariants.{Replied, Refused}
@@ -17,7 +18,7 @@ StandsFor (Refused m) (Err n) = m ≡ n
 -- the reply
 abbrev pub reply_in : Outcome → Reply
 reply_in (Replied r) = r
-reply_in (Refused n) = reply.Refused n
+reply_in (Refused refusal) = reply.Refused (number_of refusal)
 
 -- the unit asked for something with this pair, and came to this
 pub record Decided {X : Type 0} (k : Kind X) (u : X) (pair : Pair) (o : Outcome) (honest : Type 0)

@@ -19,6 +19,7 @@ use vault_core::moment::Moment;
 use vault_core::reply::Reply;
 use vault_core::source::Source;
 use vault_pan::draw::Digits;
+use vault_refusal::refusal::Refusal;
 use vault_store::tables::Tables;
 use vault_store::vault::{Fault, Vault};
 use vault_wire::send::send;
@@ -29,8 +30,8 @@ use vault_wire::watched::Watched;
 enum Outcome {
     /// The vault's reply to its command.
     Replied(Reply),
-    /// The unit itself is refused, by this number.
-    Refused(u8),
+    /// The unit itself is refused.
+    Refused(Refusal),
 }
 
 /// Answers a command by the vault, after what it changes was written.
@@ -104,7 +105,7 @@ fn decide<U: Unit, T: Tables>(
             Ok(reply) => Ok(Outcome::Replied(reply)),
             Err(stop) => Err(stop),
         },
-        Ok(Err(number)) => Ok(Outcome::Refused(number)),
+        Ok(Err(refusal)) => Ok(Outcome::Refused(refusal)),
         Err(_) => Err(Stop::Memory),
     }
 }
@@ -116,7 +117,7 @@ fn text<U: Unit>(alloc: Global, unit: &U, outcome: &Outcome) -> Result<Vec<u8>, 
 {
     match outcome {
         Outcome::Replied(reply) => unit.replied(alloc, reply),
-        Outcome::Refused(number) => unit.refused(alloc, *number),
+        Outcome::Refused(refusal) => unit.refused(alloc, *refusal),
     }
 }
 
@@ -126,7 +127,7 @@ fn reply_of(outcome: &Outcome) -> Reply
 {
     match outcome {
         Outcome::Replied(reply) => *reply,
-        Outcome::Refused(number) => Reply::Refused(*number),
+        Outcome::Refused(refusal) => Reply::Refused(refusal.number()),
     }
 }
 

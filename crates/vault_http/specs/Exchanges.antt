@@ -1,5 +1,5 @@
 -- Messages as a kind of what is asked, and the texts that answer them (RFC 9112, section 9.3).
-use Rattle.std.specs.Prelude.{ℕ, ◌==◌, List, [], ◌∷◌, map, Bool, true, Option, Some, None}
+use Rattle.std.specs.Prelude.{ℕ, List, [], ◌∷◌, map, Bool, true, Option, Some, None}
 use Rattle.std.specs.Prelude.{Ok, Err, if◌then◌else◌}
 use Rattle.std.specs.List.{list_any}
 use Rattle.vault_core.specs.declared.command.Command.{Command}
@@ -7,6 +7,7 @@ use Rattle.vault_core.specs.declared.reply.Reply.{Reply}
 use Rattle.vault_engine.specs.Asking.{Kind, kind}
 use Rattle.vault_wire.specs.Answer.{answer_bytes}
 use Rattle.vault_refusal.specs.Refusal.{number_of}
+use Rattle.vault_refusal.specs.declared.refusal.Refusal.TheVariants.{BadMethod}
 use Rattle.vault_wire.specs.Faults.{refusal_of}
 use Rattle.vault_wire.specs.Messages.{Request}
 use Rattle.vault_wire.specs.Parts.{Parts, parts_of, closes}
@@ -18,8 +19,8 @@ use Rattle.vault_routes.specs.Wanted.{Wanted, Wants}
 
 -- the methods that a message's target takes, which go with the refusal of another method
 abbrev pub methods_with : Parts → Wanted Command → Option (List ℕ)
-methods_with p (Ok c) = None
-methods_with p (Err n) = if n == 57 then methods_at p.target else None
+methods_with p (Err BadMethod) = methods_at p.target
+methods_with p other = None
 
 -- the text that answers a message which asks for this and is replied to so
 abbrev pub answer_for : Parts → Wanted Command → Reply → List ℕ

@@ -1,5 +1,7 @@
 //! The messages of a connection answered, all that a piece completed before the next piece is read.
-ghost use Rattle.std.specs.Prelude.{◌≡◌, ◌+◌, [], true, false, IfErr, IfOk, OnOk, MatchResult, length};
+ghost use Rattle.std.specs.Prelude.{◌≡◌, ◌+◌, [], true, false, is_err, IfErr, IfOk, OnOk, MatchResult, length};
+ghost use Rattle.std.specs.Io.{ReadsAtMost};
+ghost use Rattle.std.specs.Io.KnownBytes.{ReadConsumes};
 ghost use Rattle.vault_store.specs.Applied.{is_broken, tables_of};
 ghost use Rattle.vault_wire.specs.Watching.{inner_of, is_stopped};
 ghost use Rattle.vault_http.specs.Exchanges.{fault_text, has_close, message_kind, up_to_close};
@@ -12,20 +14,19 @@ ghost use Rattle.vault_engine.specs.Within.{AllAnswered, StopsWithin};
 
 use crate::fault::ServeFault;
 use crate::served::Served;
-use crate::unit::AskedMessage;
+use crate::unit::{AskedMessage, told};
 use std::alloc::{AllocError, Global};
+use std::io;
 use std::io::{Read, Write};
 use vault_core::source::Source;
 use vault_engine::ask::ask;
-use vault_routes::reply::refusal_text;
 use vault_routes::route::Routes;
-use vault_routes::status::status_for;
 use vault_store::tables::Tables;
 use vault_store::vault::Vault;
-use vault_wire::answer::answer_text;
 use vault_wire::fault::WireFault;
 use vault_wire::intake::Intake;
 use vault_wire::message::Message;
+use vault_wire::place::{Guide, Silent};
 use vault_wire::send::send;
 use vault_wire::watched::Watched;
 
@@ -63,7 +64,8 @@ fn answer_all<W: Write, T: Tables, S: Source>(
     ensures trusted { Trusts T.is_honest T.may_fail vault.old vault.new result }
 {
     for message in messages {
-        let asked = AskedMessage { routes, message };
+        let route = routes.find(message.target());
+        let asked = AskedMessage { message, route };
         match ask(alloc, &asked, writer, vault, source) {
             Ok(_) => {
                 if message.closes() {
@@ -81,9 +83,7 @@ fn answer_all<W: Write, T: Tables, S: Source>(
 fn fault_answer(alloc: Global, fault: WireFault) -> Result<Vec<u8>, AllocError>
     ensures { IfOk result (λ out. out.items ≡ fault_text fault) }
 {
-    let number = fault.refusal().number();
-    let body = refusal_text(alloc, number)?;
-    answer_text(alloc, status_for(number), None, &body, true)
+    told(alloc, fault.refusal(), None, true)
 }
 
 /// Answers a fault of the bytes.
@@ -111,10 +111,34 @@ fn refuse<W: Write>(
     Ok(())
 }
 
-/// Answers the messages of the reader's bytes by routes that were made before, as `serve` does.
-pub fn serve_by<R: Read, W: Write, T: Tables, S: Source>(
+/// Reads the next piece. Before that the reader is told whether it stands between two messages.
+fn next_piece<R: Read, G: Guide<R>>(
+    guide: &G,
+    intake: &Intake,
+    reader: &mut Watched<R>,
+    piece: &mut [u8],
+) -> io::Result<usize>
+    // no more bytes are read than there is room for
+    ensures bound { ReadsAtMost result piece.new }
+    // the bytes that are read are those that the reader underneath gave up, where they are known; with Err it
+    // gave up none
+    ensures bytes { ReadConsumes (R.remaining (inner_of reader.old)) (R.remaining (inner_of reader.new)) result
+        piece.new }
+    // it has failed exactly after an Err
+    ensures flag { is_stopped reader.new ≡ is_err result }
+    // with Ok, it hadn't failed before
+    ensures ok { OnOk result (is_stopped reader.old ≡ false) }
+{
+    reader.tell(guide, intake.rest_len() == 0);
+    reader.read(piece)
+}
+
+/// Answers the messages of the reader's bytes by routes that were made before, as `serve` does. Before each
+/// read the guide tells the reader where it stands.
+pub fn serve_by<R: Read, G: Guide<R>, W: Write, T: Tables, S: Source>(
     alloc: Global,
     routes: &Routes,
+    guide: &G,
     reader: &mut Watched<R>,
     writer: &mut Watched<W>,
     vault: &mut Vault<T>,
@@ -141,7 +165,7 @@ pub fn serve_by<R: Read, W: Write, T: Tables, S: Source>(
     let mut piece = [0u8; PIECE];
     let pairs = source.left();
     'pieces: loop {
-        let Ok(count) = reader.read(&mut piece) else {
+        let Ok(count) = next_piece(guide, &intake, reader, &mut piece) else {
             return Err(ServeFault::Read);
         };
         if count == 0 {
@@ -209,5 +233,5 @@ pub fn serve<R: Read, W: Write, T: Tables, S: Source>(
     let Ok(routes) = Routes::new(alloc) else {
         return Err(ServeFault::Memory);
     };
-    serve_by(alloc, &routes, reader, writer, vault, source)
+    serve_by(alloc, &routes, &Silent, reader, writer, vault, source)
 }

@@ -1,8 +1,10 @@
 //! A message as one thing that is asked.
-ghost use Rattle.std.specs.Prelude.{◌≡◌, Err, IfOk, option_map};
+ghost use Rattle.std.specs.Prelude.{◌≡◌, Err, IfOk, None, option_map};
 ghost use Rattle.vault_wire.specs.Answer.{answer_bytes};
-ghost use Rattle.vault_routes.specs.Reply.{body_text};
-ghost use Rattle.vault_routes.specs.Status.{status_of as code_of};
+ghost use Rattle.vault_refusal.specs.Refusal.{number_of};
+ghost use Rattle.vault_routes.specs.Route.{route_of, target_of};
+ghost use Rattle.vault_routes.specs.Reply.{body_text, refusal_text as refused_text};
+ghost use Rattle.vault_routes.specs.Status.{status_for as code_for, status_of as code_of};
 ghost use Rattle.vault_http.specs.Exchanges.{methods_with};
 
 use std::alloc::{AllocError, Global};
@@ -13,44 +15,55 @@ use vault_engine::unit::Unit;
 use vault_pan::draw::Digits;
 use vault_refusal::refusal::Refusal;
 use vault_routes::fault::HttpFault;
-use vault_routes::reply::body_of;
-use vault_routes::route::Routes;
-use vault_routes::status::status_of;
-use vault_routes::wanted::command_of;
+use vault_routes::reply::{body_of, refusal_text};
+use vault_routes::route::Route;
+use vault_routes::status::{status_by, status_of};
+use vault_routes::wanted::command_at;
 use vault_wire::answer::answer_text;
 use vault_wire::message::Message;
 
-/// A message, and the routes by which it is read.
+/// A message, and what its target names.
 #[derive(Clone, Copy)]
 pub(crate) struct AskedMessage<'a> {
-    pub(crate) routes: &'a Routes,
     pub(crate) message: &'a Message,
+    pub(crate) route: Option<Route<'a>>,
+    ghost named: { option_map target_of route ≡ route_of message.now.target },
 }
 
 /// The text of a reply.
-fn written(
+fn written(alloc: Global, reply: &Reply, closes: bool) -> Result<Vec<u8>, AllocError>
+    ensures { IfOk result (λ out. out.items
+        ≡ answer_bytes (code_of reply.now) None (body_text reply.now) closes) }
+{
+    let body = body_of(alloc, reply)?;
+    answer_text(alloc, status_of(reply), None, &body, closes)
+}
+
+/// The text of a refusal, with the methods that go with it.
+pub(crate) fn told(
     alloc: Global,
-    reply: &Reply,
+    refusal: Refusal,
     allow: Option<&str>,
     closes: bool,
 ) -> Result<Vec<u8>, AllocError>
     ensures { let methods = option_map (λ s. s.now) allow.entry in
-        IfOk result (λ out. out.items
-        ≡ answer_bytes (code_of reply.now) methods (body_text reply.now) closes) }
+        IfOk result (λ out. out.items ≡ answer_bytes (code_for (number_of refusal)) methods
+        (refused_text (number_of refusal)) closes) }
 {
-    let body = body_of(alloc, reply)?;
-    answer_text(alloc, status_of(reply), allow, &body, closes)
+    let body = refusal_text(alloc, refusal.number())?;
+    answer_text(alloc, status_by(refusal), allow, &body, closes)
 }
 
-/// The methods that go with the refusal of a message: those of its target, with 57 alone.
-fn methods(routes: &Routes, message: &Message, number: u8) -> Option<&'static str>
-    ensures { option_map (λ s. s.now) result ≡ methods_with message.now (Err number) }
-{
-    if number != Refusal::BadMethod.number() {
-        return None;
+impl<'a> AskedMessage<'a> {
+    /// The methods that go with a refusal of the message: those of its target, with 57 alone.
+    fn methods(&self, refusal: Refusal) -> Option<&'static str>
+        ensures { option_map (λ s. s.now) result ≡ methods_with self.now.message.now (Err refusal) }
+    {
+        match refusal {
+            Refusal::BadMethod => Some(self.route?.place.methods()),
+            _ => None,
+        }
     }
-    let route = routes.find(message.target())?;
-    Some(route.place.methods())
 }
 
 impl<'a> Unit for AskedMessage<'a> {
@@ -71,22 +84,26 @@ impl<'a> Unit for AskedMessage<'a> {
         alloc: Global,
         now: Moment,
         digits: Digits,
-    ) -> Result<Result<Command, u8>, AllocError> {
-        match command_of(alloc, self.routes, self.message, now, digits) {
+    ) -> Result<Result<Command, Refusal>, AllocError> {
+        match command_at(alloc, self.route, self.message, now, digits) {
             Ok(command) => Ok(Ok(command)),
             Err(fault) => match fault {
                 HttpFault::ServiceMemory => Err(AllocError),
-                _ => Ok(Err(fault.number())),
+                _ => Ok(Err(fault)),
             },
         }
     }
 
     fn replied(&self, alloc: Global, r: &Reply) -> Result<Vec<u8>, AllocError> {
-        written(alloc, r, None, self.message.closes())
+        written(alloc, r, self.message.closes())
     }
 
-    fn refused(&self, alloc: Global, number: u8) -> Result<Vec<u8>, AllocError> {
-        let allow = methods(self.routes, self.message, number);
-        written(alloc, &Reply::Refused(number), allow, self.message.closes())
+    fn refused(&self, alloc: Global, refusal: Refusal) -> Result<Vec<u8>, AllocError> {
+        told(
+            alloc,
+            refusal,
+            self.methods(refusal),
+            self.message.closes(),
+        )
     }
 }

@@ -1,5 +1,6 @@
 pub mod Clocks
 pub mod Faults
+pub mod Giving
 pub mod Live
 pub mod Peers
 pub mod Service

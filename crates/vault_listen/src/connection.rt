@@ -13,7 +13,7 @@ use crate::live::LiveSource;
 use crate::time::Timekeeper;
 use rand_core::Rng;
 use std::alloc::Global;
-use std::io::{Read, Write};
+use std::io::Write;
 use std::time::Duration;
 use vault_http::fault::ServeFault;
 use vault_http::serve::serve_by;
@@ -21,6 +21,7 @@ use vault_http::served::Served;
 use vault_routes::route::Routes;
 use vault_store::tables::Tables;
 use vault_store::vault::Vault;
+use vault_wire::place::{Placed, Telling};
 use vault_wire::watched::Watched;
 
 /// The most messages of a connection.
@@ -32,7 +33,7 @@ pub const MESSAGES: u64 = 1000;
 /// 60 Source: the 1001st message, one after `end`, or no moment is told. 61 Read and 62 Write: the
 /// reader or the writer failed. 63 Store: the store failed, or the vault was broken before. 64 Memory: memory
 /// was refused.
-pub fn serve_connection<K: Timekeeper, G: Rng, R: Read, W: Write, T: Tables>(
+pub fn serve_connection<K: Timekeeper, G: Rng, R: Placed, W: Write, T: Tables>(
     alloc: Global,
     time: &K,
     generator: &mut G,
@@ -60,5 +61,13 @@ pub fn serve_connection<K: Timekeeper, G: Rng, R: Read, W: Write, T: Tables>(
     ensures trusted { Trusts T.is_honest T.may_fail vault.old vault.new result }
 {
     let mut source = LiveSource::ending(alloc, time.questions(), generator, MESSAGES, end);
-    serve_by(alloc, routes, reader, writer, vault, &mut source)
+    serve_by(
+        alloc,
+        routes,
+        &Telling,
+        reader,
+        writer,
+        vault,
+        &mut source,
+    )
 }

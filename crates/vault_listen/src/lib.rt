@@ -3,13 +3,16 @@
 
 pub mod connection;
 pub mod draw;
+pub mod elapsed;
 pub mod fault;
+pub mod limits;
 pub mod linger;
 pub mod live;
 pub mod network;
 pub mod peer;
 pub mod peers;
+mod quiet;
 pub mod service;
+pub mod stream;
 pub mod tcp;
 pub mod time;
-mod waiting;

@@ -4,7 +4,7 @@ ghost use Rattle.vault_listen.specs.Peers.{Event};
 ghost use Rattle.vault_listen.specs.declared.fault.ListenFault.TheVariants.{Accept};
 
 use crate::fault::ListenFault;
-use crate::peer::Limits;
+use crate::limits::Limits;
 use crate::peers::Peers;
 use crate::tcp::TcpPeers;
 use std::io;

@@ -6,10 +6,11 @@ ghost use Rattle.vault_listen.specs.declared.fault.ListenFault.TheVariants.{Acce
 ghost use Rattle.vault_listen.specs.Peers.Event.{Closed};
 
 use crate::fault::ListenFault;
-use std::io::{Read, Write};
+use std::io::Write;
 use std::time::Duration;
 use vault_http::fault::ServeFault;
 use vault_http::served::Served;
+use vault_wire::place::Placed;
 use vault_wire::watched::Watched;
 
 /// A connection that was accepted.
@@ -31,7 +32,7 @@ pub trait Peers {
     ghost use Rattle.std.specs.Prelude.{List};
     ghost use Rattle.vault_listen.specs.Peers.{Event};
 
-    type Reader: Read + Drop;
+    type Reader: Placed + Drop;
 
     type Writer: Write + Drop;
 

@@ -1,11 +1,13 @@
 //! The connections that come to a TCP listener.
 ghost use Rattle.std.specs.Prelude.{◌≡◌};
 
+use crate::elapsed::Elapsed;
 use crate::fault::ListenFault;
-use crate::linger::linger;
-use crate::peer::{Limits, Peer, PeerReader, PeerWriter};
+use crate::limits::Limits;
+use crate::linger::end_peer;
+use crate::peer::{PeerReader, PeerWriter};
 use crate::peers::{Accepted, Peers};
-use crate::waiting::comes;
+use crate::stream::{PeerStream, comes};
 use std::alloc::Global;
 use std::io::ErrorKind;
 use std::net::{OpenListener, TcpStream};
@@ -29,7 +31,13 @@ fn loses_one(kind: ErrorKind) -> bool {
     }
 }
 
-/// A TCP listener, how many connections came to it, and the one that is open.
+/// The reader of a TCP connection's peer.
+pub type TcpReader<'c, C> = PeerReader<'c, PeerStream, C>;
+
+/// Its writer.
+pub type TcpWriter<'c, C> = PeerWriter<'c, PeerStream, C>;
+
+/// A TCP listener, and how many connections came to it.
 ///
 /// A message that isn't whole in the time of a turn, since the connection was accepted or the answer before
 /// it was taken, ends its connection (61), and so does an answer that isn't taken in that time (62), or the
@@ -46,7 +54,6 @@ pub struct TcpPeers<'c, L, C> {
     clock: &'c C,
     limits: Limits,
     came: u64,
-    open: Option<Rc<Peer<'c, C>>>,
 }
 
 impl<'c, L: OpenListener<Stream = TcpStream> + AsRawFd, C: Clock> TcpPeers<'c, L, C> {
@@ -73,7 +80,6 @@ impl<'c, L: OpenListener<Stream = TcpStream> + AsRawFd, C: Clock> TcpPeers<'c, L
             clock,
             limits,
             came,
-            open: None,
         }
     }
 
@@ -85,20 +91,13 @@ impl<'c, L: OpenListener<Stream = TcpStream> + AsRawFd, C: Clock> TcpPeers<'c, L
     }
 
     /// The reader and the writer of a connection that is accepted now.
-    fn opened(
-        &mut self,
-        stream: TcpStream,
-    ) -> Option<Accepted<PeerReader<'c, C>, PeerWriter<'c, C>>>
-        // how many came stays as it was
-        ensures { self.new.came ≡ self.old.came }
-    {
-        let door = self.listener.as_raw_fd();
-        let peer = Peer::new(stream, self.clock, self.limits, door).ok()?;
-        let end = Some(peer.end());
-        let peer = Rc::new(self.alloc, peer).ok()?;
-        let reader = PeerReader::new(self.alloc, peer.clone().ok()?);
-        let writer = PeerWriter::new(peer.clone().ok()?);
-        self.open = Some(peer);
+    fn opened(&self, stream: TcpStream) -> Option<Accepted<TcpReader<'c, C>, TcpWriter<'c, C>>> {
+        let elapsed = Elapsed::new(self.clock, self.limits).ok()?;
+        let end = Some(elapsed.end());
+        let elapsed = Rc::new(self.alloc, elapsed).ok()?;
+        let stream = PeerStream::new(self.alloc, stream, self.listener.as_raw_fd()).ok()?;
+        let reader = PeerReader::new(stream.again().ok()?, elapsed.clone().ok()?);
+        let writer = PeerWriter::new(stream, elapsed);
         Some(Accepted {
             reader,
             writer,
@@ -114,9 +113,9 @@ impl<'c, L: OpenListener<Stream = TcpStream> + AsRawFd, C: Clock> Peers for TcpP
     ghost use Rattle.vault_listen.specs.Peers.{Event, came_in};
     ghost use Rattle.vault_listen.specs.Peers.Event.{Closed};
 
-    type Reader = PeerReader<'c, C>;
+    type Reader = TcpReader<'c, C>;
 
-    type Writer = PeerWriter<'c, C>;
+    type Writer = TcpWriter<'c, C>;
 
     ghost tells = { λ peers log. came_in log ≡ peers.came };
 
@@ -126,7 +125,7 @@ impl<'c, L: OpenListener<Stream = TcpStream> + AsRawFd, C: Clock> Peers for TcpP
 
     fn accept(
         &mut self,
-    ) -> Result<Option<Accepted<PeerReader<'c, C>, PeerWriter<'c, C>>>, ListenFault> {
+    ) -> Result<Option<Accepted<TcpReader<'c, C>, TcpWriter<'c, C>>>, ListenFault> {
         let Some(came) = self.came.checked_add(1) else {
             return Err(ListenFault::Accept);
         };
@@ -145,8 +144,8 @@ impl<'c, L: OpenListener<Stream = TcpStream> + AsRawFd, C: Clock> Peers for TcpP
     #[tactic(auto, using(crate::proofs::ServedConnections::closed_none))]
     fn close(
         &mut self,
-        reader: Watched<PeerReader<'c, C>>,
-        writer: Watched<PeerWriter<'c, C>>,
+        reader: Watched<TcpReader<'c, C>>,
+        writer: Watched<TcpWriter<'c, C>>,
         ended: Result<Served, ServeFault>,
     )
         // with this close behind what was told, as many came
@@ -155,14 +154,6 @@ impl<'c, L: OpenListener<Stream = TcpStream> + AsRawFd, C: Clock> Peers for TcpP
             ++ Closed None None (is_stopped reader.entry) (is_stopped writer.entry) ended ∷ [])
             ≡ self.new.came }
     {
-        let Some(peer) = self.open.take() else {
-            return;
-        };
-        match ended {
-            Err(ServeFault::Read | ServeFault::Write) => {}
-            Ok(_) | Err(ServeFault::Source | ServeFault::Store | ServeFault::Memory) => {
-                linger(&peer)
-            }
-        }
+        end_peer(reader, ended);
     }
 }

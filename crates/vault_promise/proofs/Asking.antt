@@ -13,6 +13,7 @@ use Rattle.vault_core.specs.declared.command.Command.{Command}
 use Rattle.vault_core.specs.declared.command.Command.TheVariants.{Detokenize}
 use Rattle.vault_core.specs.declared.reply.Reply.TheVariants.{Number}
 use Rattle.vault_wire.specs.Parts.{Parts}
+use Rattle.vault_refusal.specs.declared.refusal.Refusal.{Refusal}
 use Rattle.vault_routes.specs.Route.{Target}
 use Rattle.vault_routes.specs.Table.{action_at}
 use Rattle.vault_routes.specs.Wanted.{Wanted, Wants, WantsAction, WantsOrder, command_for, command_on}
@@ -85,7 +86,7 @@ at_number place.Audit method e =
 abbrev NoRedeem : Wanted Command → Type 0
 NoRedeem w = (caller m token : Bytes) (t : ℕ) → w ≡ Ok (Detokenize caller m token t) → ⊥
 
-no_refusal : (w : Wanted Command) (n : ℕ) → w ≡ Err n → NoRedeem w
+no_refusal : (w : Wanted Command) (n : Refusal) → w ≡ Err n → NoRedeem w
 no_refusal w n same caller m token t is = let both = sym same ∙ is in absurd (cc)
 
 -- an order is a Tokenize, or it is refused

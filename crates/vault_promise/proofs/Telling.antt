@@ -153,7 +153,8 @@ tells_wanted : (V : Content) (p : Parts) (pair : Pair) (w : Wanted Command) (num
 unfolding text_at
 tells_wanted V p pair (Ok c) number close e = tells (reply V c) number (closes p) close e
 tells_wanted V p pair (Err n) number close e =
-    absurd ((refused_status n).apart (methods_with p (Err n)) (refusal_text n) (body_text (Number number))
+    absurd ((refused_status (number_of n)).apart (methods_with p (Err n)) (refusal_text (number_of n))
+    (body_text (Number number))
     (closes p) close e)
 
 told_by : (V : Content) (p : Parts) (pair : Pair) (w : Wanted Command) (number : Bytes) (close : Bool)

@@ -3,6 +3,7 @@ pub mod BranchLemmas
 pub mod FindLemmas
 pub mod NameLemmas
 pub mod ParameterLemmas
+pub mod PlainBodies
 pub mod RoomLemmas
 pub mod SegmentLemmas
 pub mod Statuses

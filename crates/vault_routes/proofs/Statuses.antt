@@ -28,3 +28,8 @@ with_57 n = (
   of_number (λ s. s ≡ 405 → n ≡ 57) n answered (λ code. absurd (unlike 507 405 refl code)) (only_one n),
   λ is. subst (λ k. status_for k ≡ 405) (sym is) refl,
 )
+
+-- a refusal's own status is that of its number
+pub status_itself : (r : Refusal) → status_of r ≡ status_for (number_of r)
+status_itself BadNumber = refl
+status_itself other = refl

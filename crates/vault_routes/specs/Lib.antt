@@ -1,4 +1,5 @@
 pub mod Body
+pub mod Plain
 pub mod Reply
 pub mod Route
 pub mod Status

@@ -1,4 +1,4 @@
--- What a message asks for: a command, or the number of the first refusal that applies.
+-- What a message asks for: a command, or the first refusal that applies.
 use Rattle.std.specs.Prelude.{◌≡◌, ◌≢◌, ℕ, ◌⊎◌, List, codes, true, Some, Result, Ok, Err}
 use Rattle.std.specs.Str.Parse.{digits_value}
 use Rattle.vault_pan.specs.CardText.{IsCardText, IsNumber, IsToken, digits_of}
@@ -13,7 +13,6 @@ use Rattle.vault_core.specs.declared.usage.Use.{Use}
 use Rattle.vault_wire.specs.Fields.{sole_value}
 use Rattle.vault_wire.specs.Parts.{Parts}
 use Rattle.vault_routes.specs.Body.{asked_in}
-use Rattle.vault_refusal.specs.Refusal.{number_of}
 use Rattle.vault_refusal.specs.declared.refusal.Refusal.{Refusal}
 use Rattle.vault_refusal.specs.declared.refusal.Refusal.TheVariants.{BadFields, BadName, BadBody, BadNumber}
 use Rattle.vault_refusal.specs.declared.refusal.Refusal.TheVariants.{BadCheck, BadUse, BadRequestNumber}
@@ -32,18 +31,18 @@ use Rattle.vault_routes.specs.declared.wanted.Order.{Order}
 abbrev Bytes : Type 0
 Bytes = List ℕ
 
--- what is read of a message, or the number of a refusal
+-- what is read of a message, or a refusal
 abbrev pub Wanted : Type 0 → Type 0
-Wanted X = Result X ℕ
+Wanted X = Result X Refusal
 
 -- P holds and the rest goes on, or it doesn't and this is the refusal
 abbrev pub Must : {X : Type 0} → Type 0 → Refusal → (Wanted X → Type 0) → Wanted X → Type 0
-Must P refused goes r = (P × goes r) ⊎ ((¬ P) × (r ≡ Err (number_of refused)))
+Must P refused goes r = (P × goes r) ⊎ ((¬ P) × (r ≡ Err refused))
 
 -- the rest goes on with a y of which P holds, or there is none and this is the refusal
 abbrev pub With : {X Y : Type 0} → (Y → Type 0) → Refusal → (Y → Wanted X → Type 0) → Wanted X → Type 0
 With {X} {Y} P refused goes r =
-    ((y : Y) × P y × goes y r) ⊎ (((y : Y) → ¬ P y) × (r ≡ Err (number_of refused)))
+    ((y : Y) × P y × goes y r) ⊎ (((y : Y) → ¬ P y) × (r ≡ Err refused))
 
 -- one field has the caller's name, else 58; it and the merchant's text are names, else 4
 abbrev pub WantsAsker : {X : Type 0} → Parts → Bytes → ℕ → (Asker → Wanted X → Type 0) → Wanted X → Type 0
@@ -97,6 +96,6 @@ Wants p now drawn =
     WantsAction asked target p drawn a)))
 
 -- what is answered is wanted; want of memory says nothing
-abbrev pub IsWanted : {X : Type 0} → (Wanted X → Type 0) → Result X Refusal → Type 0
+abbrev pub IsWanted : {X : Type 0} → (Wanted X → Type 0) → Wanted X → Type 0
 IsWanted wants (Ok x) = wants (Ok x)
-IsWanted wants (Err e) = e ≢ ServiceMemory → wants (Err (number_of e))
+IsWanted wants (Err e) = e ≢ ServiceMemory → wants (Err e)

@@ -3,6 +3,7 @@ ghost use Rattle.std.specs.Prelude.{◌≡◌, IfOk, option_map, string_bytes};
 ghost use Rattle.serde_json.specs.View.{view};
 ghost use Rattle.vault_routes.specs.Body.{asked_in, json_in, texts_of};
 
+use crate::plain::plain_texts;
 use serde_json::Value;
 use std::alloc::{AllocError, Global};
 
@@ -49,15 +50,26 @@ impl TokenBody {
         ensures { IfOk result (λ body. asked_in bytes.now
             ≡ option_map (λ b. (string_bytes b.number, string_bytes b.usage)) body) }
     {
+        if let Some((number, usage)) = plain_texts(bytes) {
+            return Ok(Some(TokenBody::of(alloc, number, usage)?));
+        }
         let Some(value) = read_json(alloc, bytes)? else {
             return Ok(None);
         };
         let Some((number, usage)) = asked_texts(&value) else {
             return Ok(None);
         };
-        Ok(Some(TokenBody {
+        Ok(Some(TokenBody::of(alloc, number, usage)?))
+    }
+
+    // The body of these texts.
+    fn of(alloc: Global, number: &str, usage: &str) -> Result<TokenBody, AllocError>
+        ensures { IfOk result (λ body. (string_bytes body.number ≡ number.now)
+            × (string_bytes body.usage ≡ usage.now)) }
+    {
+        Ok(TokenBody {
             number: String::from_str(alloc, number)?,
             usage: String::from_str(alloc, usage)?,
-        }))
+        })
     }
 }

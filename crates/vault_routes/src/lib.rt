@@ -3,6 +3,7 @@
 
 pub mod body;
 pub mod fault;
+mod plain;
 pub mod reply;
 pub mod route;
 pub mod status;

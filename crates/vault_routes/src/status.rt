@@ -1,11 +1,23 @@
 //! The status of an answer.
 ghost use Rattle.std.specs.Prelude.{◌≡◌, ◌↔◌};
 ghost use Rattle.vault_core.specs.declared.reply.Reply.TheVariants.{Refused};
+ghost use Rattle.vault_refusal.specs.Refusal.{number_of};
 ghost use Rattle.vault_routes.specs.Status.{status_for as code_for, status_of as code_of};
 ghost use Rattle.vault_wire.specs.Status.{IsStatus};
 
 use vault_core::reply::Reply;
-use vault_refusal::refusal::{OTHER_STATUS, status_at};
+use vault_refusal::refusal::{OTHER_STATUS, Refusal, status_at};
+
+/// The status of a refusal.
+#[tactic(auto, using(crate::proofs::Statuses::status_is, crate::proofs::Statuses::status_itself))]
+pub fn status_by(refusal: Refusal) -> u16
+    // it is the status of its number
+    ensures code { result ≡ code_for (number_of refusal) }
+    // the service answers with this status
+    ensures status { IsStatus result }
+{
+    refusal.status()
+}
 
 /// The status of a refusal, by its number. A number that no message is answered with has 507.
 pub fn status_for(refusal: u8) -> u16

@@ -1,11 +1,12 @@
 //! The command that a message asks for.
-ghost use Rattle.std.specs.Prelude.{◌≡◌, Ok, IfOk};
+ghost use Rattle.std.specs.Prelude.{◌≡◌, Ok, IfOk, option_map};
 ghost use Rattle.vault_core.specs.Proper.{HasLivesInRange};
+ghost use Rattle.vault_routes.specs.Route.{route_of, target_of};
 ghost use Rattle.vault_routes.specs.Wanted.{IsWanted, Wants, WantsAsker, WantsOrder, command_for, command_on};
 
 use crate::body::TokenBody;
 use crate::fault::HttpFault;
-use crate::route::Routes;
+use crate::route::{Route, Routes};
 use crate::table::{Action, TokenAction};
 use std::alloc::Global;
 use vault_core::command::Command;
@@ -140,12 +141,7 @@ impl Order {
     }
 }
 
-/// The command of a message, with a moment and drawn digits.
-///
-/// Refusals, the first that applies: 56 NoRoute, 57 BadMethod, 58 BadFields for X-Vault-Caller,
-/// 4 BadName for its value and for the merchant, 3 BadToken; for a Tokenize 58 for
-/// X-Vault-Request, 5 BadRequestNumber, 59 BadBody, 1 BadNumber, 2 BadCheck, 19 BadUse.
-/// 64 Memory: there is no memory to read the body.
+/// The command of a message, with a moment and drawn digits, by the routes as `command_at` has it.
 pub fn command_of(
     alloc: Global,
     routes: &Routes,
@@ -158,7 +154,29 @@ pub fn command_of(
     // with Ok, the lives that the command sets, if any, are in range
     ensures lives { IfOk result HasLivesInRange }
 {
-    let Some(route) = routes.find(message.target()) else {
+    command_at(alloc, routes.find(message.target()), message, now, digits)
+}
+
+/// The command of a message, with a moment and drawn digits, where its target names this.
+///
+/// Refusals, the first that applies: 56 NoRoute, 57 BadMethod, 58 BadFields for X-Vault-Caller,
+/// 4 BadName for its value and for the merchant, 3 BadToken; for a Tokenize 58 for
+/// X-Vault-Request, 5 BadRequestNumber, 59 BadBody, 1 BadNumber, 2 BadCheck, 19 BadUse.
+/// 64 Memory: there is no memory to read the body.
+pub fn command_at(
+    alloc: Global,
+    route: Option<Route<'_>>,
+    message: &Message,
+    now: Moment,
+    digits: Digits,
+) -> Result<Command, HttpFault>
+    requires { option_map target_of route ≡ route_of message.now.target }
+    // Ok is the command that the message wants; a fault but want of memory is the first refusal that applies
+    ensures wanted { IsWanted (Wants message.now now digits) result }
+    // with Ok, the lives that the command sets, if any, are in range
+    ensures lives { IfOk result HasLivesInRange }
+{
+    let Some(route) = route else {
         return Err(HttpFault::NoRoute);
     };
     let Some(action) = route.place.action(message.method()) else {

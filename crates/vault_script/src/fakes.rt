@@ -3,6 +3,7 @@
 use std::cell::Cell;
 use std::io;
 use std::io::{Error, ErrorKind, Read, Write};
+use vault_wire::place::Placed;
 
 /// Gives so many bytes at a call, and fails at the call `bad`, counted from 1; counts its calls.
 #[derive(Drop)]
@@ -185,6 +186,11 @@ impl<'a> Read for TestReader<'a> {
             TestReader::Pieces(reader) => reader.read(buf),
         }
     }
+}
+
+/// It doesn't ask where it stands.
+impl<'a> Placed for TestReader<'a> {
+    fn stand(&mut self, _is_between: bool) {}
 }
 
 /// What a connection or a batch writes to.

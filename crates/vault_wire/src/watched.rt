@@ -4,6 +4,7 @@ ghost use Rattle.std.specs.Io.{ReadsAtMost, WritesAtMost};
 ghost use Rattle.std.specs.Io.KnownBytes.{Keeps, ReadConsumes, WriteAppends};
 ghost use Rattle.vault_wire.specs.Watching.{inner_of, is_stopped, tells_failure};
 
+use crate::place::Guide;
 use std::io;
 use std::io::{ErrorKind, Read, Write};
 
@@ -34,6 +35,26 @@ impl<T> Watched<T> {
         ensures { result ≡ is_stopped self.now }
     {
         self.stopped
+    }
+
+    /// The reader or writer underneath.
+    pub fn into_inner(self) -> T
+        ensures { result ≡ inner_of self }
+    {
+        let Watched { inner, stopped: _ } = self;
+        inner
+    }
+}
+
+impl<R: Read> Watched<R> {
+    /// Tells the reader underneath whether it stands between two messages.
+    pub fn tell<G: Guide<R>>(&mut self, guide: &G, is_between: bool)
+        // what it has left to give stays
+        ensures bytes { R.remaining (inner_of self.new) ≡ R.remaining (inner_of self.old) }
+        // whether a call failed stays
+        ensures flag { is_stopped self.new ≡ is_stopped self.old }
+    {
+        guide.tell(&mut self.inner, is_between);
     }
 }
 

@@ -2,6 +2,7 @@
 mod ends;
 mod fakes;
 mod peers;
+mod streams;
 
 use super::clocks::TestClock;
 use fakes::{Lent, TestListener};
@@ -13,7 +14,7 @@ use std::io::{Write, read_to_string};
 use std::net::{Net, Shutdown, TcpListener, TcpStream};
 use std::time::Duration;
 use vault_listen::fault::ListenFault;
-use vault_listen::peer::{LONGEST, Limits, PATIENCE};
+use vault_listen::limits::{LONGEST, Limits, PATIENCE};
 use vault_listen::service::serve_on;
 use vault_listen::tcp::TcpPeers;
 use vault_listen::time::ClockTime;

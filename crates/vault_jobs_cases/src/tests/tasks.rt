@@ -6,7 +6,7 @@ use super::desks::TestDesk;
 use vault_jobs::note::Note;
 use vault_jobs::task::{Outcome, Task, do_task};
 use vault_listen::network::Loopback;
-use vault_listen::peer::Limits;
+use vault_listen::limits::Limits;
 use vault_listen::time::ClockTime;
 use vault_script::fakes::{TestReader, TestWriter};
 use vault_store::memory::MemTables;

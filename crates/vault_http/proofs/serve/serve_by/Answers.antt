@@ -58,12 +58,12 @@ pub returns-then-count-eq0-clause-serves : goal.returns-then-count-eq0-clause-se
 returns-then-count-eq0-clause-serves g c =
     let inv = c.pieces.invariant in
     let r = c.in-Ok.ensures.bytes in
-    let room : 0 < length c.read.new.buf = omega (arith, c.read.auto.buf, inv.room) in
+    let room : 0 < length c.next_piece.new.piece = omega (arith, c.next_piece.auto.piece, inv.room) in
     let none = up_to_close-none (shown inv.messages) inv.open_till in
     let many : length (up_to_close (shown inv.messages)) ≡ length inv.messages =
     ap length none ∙ length-map inv.messages parts_of in
     serves_all _ _ _ _ (served_plain _ _ _ inv.bytes inv.messages
-    (consumes_none _ _ _ inv.bytes c.read.new.buf c.in-Ok.count inv.read c.if-count-eq0.true r.0) None
+    (consumes_none _ _ _ inv.bytes c.next_piece.new.piece c.in-Ok.count inv.read c.if-count-eq0.true r.0) None
     (record { messages = c.left-pairs.result - c.left.result; fault = None })
     (reads_by c.pieces.intake inv.bytes inv.messages None inv.calm inv.reading)
     (all_as _ _ _ (sym none) inv.answered)
@@ -73,7 +73,7 @@ returns-then-count-eq0-clause-serves g c =
 pub returns-in_default-feed-clause-serves : goal.returns-in_default-feed-clause-serves
 returns-in_default-feed-clause-serves g c =
     let inv = c.pieces.invariant in
-    let piece = take c.in-Ok.count c.read.new.buf in
+    let piece = take c.in-Ok.count c.next_piece.new.piece in
     let reads = reads_by c.pieces.intake inv.bytes inv.messages None inv.calm inv.reading in
     serves_part _ _ _ _ (record {
       bytes = inv.bytes ++ piece;
@@ -161,12 +161,12 @@ returns-in-Some-clause-serves g c =
 pub pieces-smaller : goal.pieces-smaller
 pieces-smaller g c =
     let inv = c.pieces.invariant in
-    let piece = take c.in-Ok.count c.read.new.buf in
+    let piece = take c.in-Ok.count c.next_piece.new.piece in
     let fed = fed_of _ _ _ _ _ inv.bytes piece inv.messages c.deref.result.now _ inv.read
     c.in-Ok.ensures.bytes.0 inv.reading c.deref.ensures.value inv.open_till c.in-Ok-feed.ensures.reads in
     let none = fed.closing ∙ sym c.in-Ok-false.ensures.closes ∙ c.in-Ok-false.field-0-test in
-    let room : 0 < length c.read.new.buf = omega (arith, c.read.auto.buf, inv.room) in
-    let taken = length-take c.in-Ok.count c.read.new.buf in
+    let room : 0 < length c.next_piece.new.piece = omega (arith, c.next_piece.auto.piece, inv.room) in
+    let taken = length-take c.in-Ok.count c.next_piece.new.piece in
     let some : 0 < length piece = omega (arith, c.if-count-eq0.false, room, taken) in
     falls c.in-Ok-feed.ensures.reads.0 c.pieces.intake c.feed.new.self inv.bytes piece inv.messages
     (g.S.Source.count_left c.pieces.source) (g.S.Source.count_left c.answer_all.new.source)
@@ -184,7 +184,7 @@ pieces-preserved g c =
     in
     let went = after_read _ _ _ _ _ _ (c.in-Ok.ensures.flag ∙ sym c.in-Ok.ensures.ok) inv.told in
     record {
-      room = c.read.auto.buf ∙ inv.room;
+      room = c.next_piece.auto.piece ∙ inv.room;
       calm = sym c.in-Ok-feed.ensures.fault ∙ c.in_default-fault.is;
       bytes = _;
       messages = _;
@@ -201,7 +201,7 @@ pieces-preserved g c =
       );
       later = g.met.S.Source.transitive _ _ _ inv.later c.answer_all.ensures.later;
       told =
-          beside_reader Bool (Ok false) (is_stopped c.read.new.self) _ _ _ _ _ _
+          beside_reader Bool (Ok false) (is_stopped c.next_piece.new.reader) _ _ _ _ _ _
           c.in-Ok-false.ensures.own_failure
           ∙ went;
       honest = λ h. inv.honest (c.answer_all.ensures.trusted.disk_honest h);
@@ -230,7 +230,7 @@ pub returns-in-Ok-true-clause-own_failure : goal.returns-in-Ok-true-clause-own_f
 returns-in-Ok-true-clause-own_failure g c =
     let went =
     after_read _ _ _ _ _ _ (c.in-Ok.ensures.flag ∙ sym c.in-Ok.ensures.ok) c.pieces.invariant.told in
-    beside_reader Bool (Ok true) (is_stopped c.read.new.self) _ _ _ _ _ _ c.in-Ok-true.ensures.own_failure
+    beside_reader Bool (Ok true) (is_stopped c.next_piece.new.reader) _ _ _ _ _ _ c.in-Ok-true.ensures.own_failure
     ∙ went
 
 pub returns-in-Err-clause-own_failure : goal.returns-in-Err-clause-own_failure
@@ -238,7 +238,7 @@ returns-in-Err-clause-own_failure g c =
     let went =
     after_read _ _ _ _ _ _ (c.in-Ok.ensures.flag ∙ sym c.in-Ok.ensures.ok) c.pieces.invariant.told in
     tells_as Bool Served c.in-Err.fault _ _ _ went
-    (beside_reader Bool (Err c.in-Err.fault) (is_stopped c.read.new.self) _ _ _ _ _ _
+    (beside_reader Bool (Err c.in-Err.fault) (is_stopped c.next_piece.new.reader) _ _ _ _ _ _
     c.in-Err.ensures.own_failure)
 
 pub returns-in-Err-refuse-clause-own_failure : goal.returns-in-Err-refuse-clause-own_failure
@@ -246,11 +246,11 @@ returns-in-Err-refuse-clause-own_failure g c =
     let went =
     after_read _ _ _ _ _ _ (c.in-Ok.ensures.flag ∙ sym c.in-Ok.ensures.ok) c.pieces.invariant.told in
     let all =
-    beside_reader Bool (Ok false) (is_stopped c.read.new.self) _ _ _ _ _ _ c.in-Ok-false.ensures.own_failure
+    beside_reader Bool (Ok false) (is_stopped c.next_piece.new.reader) _ _ _ _ _ _ c.in-Ok-false.ensures.own_failure
     ∙ went in
     tells_as (Unit {0}) Served c.in-Err-refuse.stop _ _ _ all
     (beside_writer c.in-Err-refuse.stop (g.S.Source.has_refused c.answer_all.new.source)
-    (is_stopped c.read.new.self)
+    (is_stopped c.next_piece.new.reader)
     (is_broken c.answer_all.new.vault) _ _ c.in-Err-refuse.ensures.own_failure)
 
 pub returns-in-Some-clause-own_failure : goal.returns-in-Some-clause-own_failure
@@ -258,8 +258,8 @@ returns-in-Some-clause-own_failure g c =
     let went =
     after_read _ _ _ _ _ _ (c.in-Ok.ensures.flag ∙ sym c.in-Ok.ensures.ok) c.pieces.invariant.told in
     let all =
-    beside_reader Bool (Ok false) (is_stopped c.read.new.self) _ _ _ _ _ _ c.in-Ok-false.ensures.own_failure
+    beside_reader Bool (Ok false) (is_stopped c.next_piece.new.reader) _ _ _ _ _ _ c.in-Ok-false.ensures.own_failure
     ∙ went in
     ap (λ (f : Failures). failures (g.S.Source.has_refused c.answer_all.new.source)
-    (is_stopped c.read.new.self) f.writer
+    (is_stopped c.next_piece.new.reader) f.writer
     (is_broken c.answer_all.new.vault)) c.in_default-refuse.ensures.own_failure ∙ all

@@ -7,7 +7,7 @@ use std::io;
 use std::io::ErrorKind;
 use std::net::{Net, TcpListener, TcpStream};
 use vault_listen::fault::ListenFault;
-use vault_listen::peer::Limits;
+use vault_listen::limits::Limits;
 use vault_script::shops::shop;
 use vault_script::stuck::Stuck;
 use vault_script::worked::{ANSWERED, ASKED};

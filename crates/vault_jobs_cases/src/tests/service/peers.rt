@@ -9,8 +9,11 @@ use std::net::{Net, OpenListener, TcpListener, TcpStream};
 use std::os::fd::AsRawFd;
 use std::rc::Rc;
 use std::time::{Clock, Duration};
+use vault_listen::elapsed::Elapsed;
+use vault_listen::limits::{Limits, PATIENCE};
 use vault_listen::linger::discard;
-use vault_listen::peer::{Limits, PATIENCE, Peer, PeerReader, PeerWriter};
+use vault_listen::peer::{PeerReader, PeerWriter};
+use vault_listen::stream::PeerStream;
 use vault_script::shops::{repeated, shop};
 use vault_script::worked::{ANSWERED, ASKED};
 
@@ -93,14 +96,12 @@ fn are_limited<H: Net<Listener = TcpListener, Stream = TcpStream> + AllocGlobal>
     let _other = open_peer(rt, &listener, b"a")?;
     let (stream, _) = listener.accept()?;
     let clock = TestClock::at(1000);
-    let peer = Peer::new(stream, &clock, Limits::of_service(), listener.as_raw_fd())?;
-    let Ok(peer) = Rc::new(rt.alloc(), peer) else {
-        return Ok(false);
-    };
-    let read = PeerReader::new(rt.alloc(), peer.clone()?).read(&mut [0; 9])?;
-    let written = PeerWriter::new(peer.clone()?).write(b"ab")?;
+    let elapsed = Rc::new(rt.alloc(), Elapsed::new(&clock, Limits::of_service())?)?;
+    let stream = PeerStream::new(rt.alloc(), stream, listener.as_raw_fd())?;
+    let read = PeerReader::new(stream.again()?, elapsed.clone()?).read(&mut [0; 9])?;
+    let written = PeerWriter::new(stream.again()?, elapsed).write(b"ab")?;
     let patience = Some(Duration::from_secs(PATIENCE));
-    let stream = peer.stream();
+    let stream = stream.connection();
     let is_waited = stream.read_timeout()? == patience && stream.write_timeout()? == patience;
     Ok(read == 1 && written == 2 && is_waited)
 }

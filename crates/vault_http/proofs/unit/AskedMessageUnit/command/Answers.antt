@@ -2,6 +2,6 @@ use Rattle.vault_http.proofs.unit.AskedMessageUnit.command.Goals as goal
 
 pub returns-in_default : goal.returns-in_default
 returns-in_default c = record {
-  wanted = rw c.number.ensures (c.in-Err.ensures.wanted c.in_default.not-ServiceMemory);
+  wanted = c.in-Err.ensures.wanted c.in_default.not-ServiceMemory;
   proper = tt;
 }

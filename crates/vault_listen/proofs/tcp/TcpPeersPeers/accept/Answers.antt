@@ -5,7 +5,7 @@ use Rattle.vault_listen.proofs.tcp.TcpPeersPeers.accept.Goals as goal
 
 pub returns-in-Some-stream-clause-comes : goal.returns-in-Some-stream-clause-comes
 returns-in-Some-stream-clause-comes g c = λ log same.
-    came_one _ _ c.opened.result log ∙ omega (arith, same, c.in-Some.ensures, c.opened.ensures)
+    came_one _ _ c.opened.result log ∙ omega (arith, same, c.in-Some.ensures)
 
 pub returns-in-None-clause-comes : goal.returns-in-None-clause-comes
 returns-in-None-clause-comes g c = λ log same.

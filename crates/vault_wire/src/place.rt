@@ -1,0 +1,42 @@
+//! Where a reader stands among the messages that it reads: between two of them, or within one.
+ghost use Rattle.std.specs.Prelude.{◌≡◌};
+
+use std::io::Read;
+
+/// A reader that is told where it stands before each read.
+pub trait Placed: Read {
+    ghost use Rattle.std.specs.Prelude.{◌≡◌};
+
+    /// Takes in whether it stands between two messages: no byte of the next one was read.
+    fn stand(&mut self, is_between: bool)
+        // what it has left to give stays
+        ensures { Self.remaining self.new ≡ Self.remaining self.old };
+}
+
+/// Tells readers of a type where they stand.
+pub trait Guide<R: Read> {
+    ghost use Rattle.std.specs.Prelude.{◌≡◌};
+
+    /// Tells a reader whether it stands between two messages.
+    fn tell(&self, reader: &mut R, is_between: bool)
+        // what it has left to give stays
+        ensures { R.remaining reader.new ≡ R.remaining reader.old };
+}
+
+/// Tells nothing: for readers that don't ask.
+#[derive(Clone, Copy)]
+pub struct Silent;
+
+impl<R: Read> Guide<R> for Silent {
+    fn tell(&self, _reader: &mut R, _is_between: bool) {}
+}
+
+/// Tells each reader where it stands.
+#[derive(Clone, Copy)]
+pub struct Telling;
+
+impl<R: Placed> Guide<R> for Telling {
+    fn tell(&self, reader: &mut R, is_between: bool) {
+        reader.stand(is_between)
+    }
+}
