@@ -6,24 +6,37 @@ cd "$(dirname "$0")/.."
 crate=crates/vault_refusal
 page=docs/REFUSALS.md
 
+# The refusals that definitions of these crates give, each after its `refusal_of`.
+given() {
+    for place in "$@"; do
+        sed -n 's/^refusal_of .* = refusal\.\([A-Za-z]*\)$/\1/p' "crates/$place.antt"
+    done
+}
+
+# What the vault answers to the commands of the words, and what a word may be.
+ANSWERED='NoMerchant NoRight TooManyMerchants MomentAhead BadName UnknownRight'
+
 table() {
     echo '| Number | Name | Means | HTTP status | Exit status |'
     echo '|---|---|---|---|---|'
-    awk '
+    # by the line that a job ends with: a refusal, a file that isn't opened, or a stop, which goes before
+    refused="$ANSWERED $(given vault_rights/specs/Faults vault_merchants/specs/Faults)"
+    closed=$(given vault_file/specs/Faults vault_verdict/specs/Faults)
+    stopped=$(given vault_jobs/specs/Causes vault_store/specs/Applied vault_batch/specs/Faults \
+        vault_http/specs/Faults vault_listen/specs/Faults)
+    awk -v refused="$refused" -v closed="$closed" -v stopped="$stopped" '
+        function leave(names, code, each, many, i) {
+            many = split(names, each, /[ \n]+/)
+            for (i = 1; i <= many; i++) leaves[each[i]] = code
+        }
+        BEGIN { leave(refused, 1); leave(closed, 3); leave(stopped, 4) }
         # what is said of each, in the specs
         FILENAME ~ /specs/ && /^status_of refusal\./ { sub("refusal[.]", "", $2); status[$2] = $4 }
-        FILENAME ~ /specs/ && /^other_status = / { other = $3 }
-        FILENAME ~ /specs/ && /^exit_of refusal\./ { sub("refusal[.]", "", $2); leaves[$2] = $5 }
-        FILENAME ~ /specs/ && /^answered =/ { listing = 1 }
-        FILENAME ~ /specs/ && /^answered_by/ { listing = 0 }
-        FILENAME ~ /specs/ && listing {
-            for (i = 1; i <= NF; i++) if (sub("^refusal[.]", "", $i)) answers[$i] = 1
-        }
         # when it comes, and its number, in the source
         FILENAME ~ /src/ && /^    \/\/\/ / { line = $0; sub("^ *///", "", line); when = when line }
         FILENAME ~ /src/ && /^    [A-Z][A-Za-z]* = [0-9]+,$/ {
             number = $3; sub(",", "", number)
-            code = "-"; if ($1 in answers) code = ($1 in status) ? status[$1] : other
+            code = ($1 in status) ? status[$1] : "-"
             printf "| %s | %s |%s | %s | %s |\n", number, $1, when, code, ($1 in leaves) ? leaves[$1] : "-"
             when = ""
         }

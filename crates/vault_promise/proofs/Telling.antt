@@ -120,7 +120,7 @@ unfolding digits
 other_apart = starts_other 53 (λ allow b j. refl) refl
 
 refused_status : (n : ℕ) → IsApart (status_for n)
-refused_status n = of_number IsApart n refusal.answered other_apart (λ r is. status_apart r)
+refused_status n = of_number IsApart n refusal.refusals other_apart (λ r is. status_apart r)
 
 -- a body that reads as one with a number is the body of that reply
 body_tells : (r : Reply) (number : Bytes) → body_text r ≡ body_text (Number number) → r ≡ Number number

@@ -65,7 +65,7 @@ number_of refusal.BadLives = 76
 number_of refusal.Accept = 80
 number_of refusal.MomentAhead = 81
 
--- the status code of a refusal that no message is answered with: Insufficient Storage
+-- the status code of a refusal that no message is answered with, and of a number that none has
 abbrev pub other_status : ℕ
 other_status = 507
 
@@ -82,12 +82,14 @@ status_of refusal.NoMerchant = 404
 status_of refusal.NoRight = 403
 status_of refusal.WrongUse = 422
 status_of refusal.NumberReused = 409
+status_of refusal.Full = 507
 status_of refusal.NoCandidate = 503
 status_of refusal.NoToken = 404
 status_of refusal.Purged = 410
 status_of refusal.Revoked = 410
 status_of refusal.Expired = 410
 status_of refusal.StillLive = 409
+status_of refusal.TooManyMerchants = 507
 status_of refusal.BadUse = 400
 status_of refusal.BadHead = 400
 status_of refusal.HeadTooLarge = 431
@@ -100,59 +102,30 @@ status_of refusal.BadFields = 400
 status_of refusal.BadBody = 400
 status_of other = other_status
 
--- the exit status of a run that it ends, where it ends one
-abbrev pub exit_of : Refusal → Option ℕ
-exit_of refusal.BadName = Some 1
-exit_of refusal.NoMerchant = Some 1
-exit_of refusal.NoRight = Some 1
-exit_of refusal.TooManyMerchants = Some 1
-exit_of refusal.CommandMemory = Some 4
-exit_of refusal.CommandStore = Some 4
-exit_of refusal.Reopen = Some 4
-exit_of refusal.WrongSchema = Some 3
-exit_of refusal.Damaged = Some 3
-exit_of refusal.OpenMemory = Some 3
-exit_of refusal.OpenStore = Some 3
-exit_of refusal.FileRefused = Some 3
-exit_of refusal.BadHeader = Some 4
-exit_of refusal.BatchRead = Some 4
-exit_of refusal.BatchWrite = Some 4
-exit_of refusal.BatchStore = Some 4
-exit_of refusal.BadRecord = Some 4
-exit_of refusal.BatchMemory = Some 4
-exit_of refusal.BatchSource = Some 4
-exit_of refusal.ServiceSource = Some 4
-exit_of refusal.ServiceRead = Some 4
-exit_of refusal.ServiceWrite = Some 4
-exit_of refusal.ServiceStore = Some 4
-exit_of refusal.ServiceMemory = Some 4
-exit_of refusal.NotToml = Some 1
-exit_of refusal.UnknownRight = Some 1
-exit_of refusal.BadKey = Some 1
-exit_of refusal.WrongType = Some 1
-exit_of refusal.RightsMemory = Some 4
-exit_of refusal.BadEnd = Some 1
-exit_of refusal.BadLives = Some 1
-exit_of refusal.Accept = Some 4
-exit_of refusal.MomentAhead = Some 1
-exit_of endless = None
-
--- all that answer a message, in the order of their numbers
-abbrev pub answered : List Refusal
-answered = refusal.BadNumber ∷ refusal.BadCheck ∷ refusal.BadToken ∷ refusal.BadName ∷
-    refusal.BadRequestNumber ∷ refusal.NoMerchant ∷ refusal.NoRight ∷ refusal.WrongUse ∷
-    refusal.NumberReused ∷ refusal.Full ∷ refusal.NoCandidate ∷ refusal.NoToken ∷ refusal.Purged ∷
-    refusal.Revoked ∷ refusal.Expired ∷ refusal.StillLive ∷ refusal.TooManyMerchants ∷ refusal.BadUse ∷
-    refusal.BadHead ∷ refusal.HeadTooLarge ∷ refusal.BadLength ∷ refusal.NoCoding ∷ refusal.BodyTooLarge ∷
-    refusal.NoRoute ∷ refusal.BadMethod ∷ refusal.BadFields ∷ refusal.BadBody ∷ []
+-- all of them, in the order of their numbers
+abbrev pub refusals : List Refusal
+refusals = refusal.BadNumber ∷ refusal.BadCheck ∷ refusal.BadToken ∷ refusal.BadName ∷
+    refusal.BadRequestNumber ∷ refusal.BadMoment ∷ refusal.NoMerchant ∷ refusal.NoRight ∷
+    refusal.WrongUse ∷ refusal.NumberReused ∷ refusal.Full ∷ refusal.NoCandidate ∷ refusal.NoToken ∷
+    refusal.Purged ∷ refusal.Revoked ∷ refusal.Expired ∷ refusal.StillLive ∷ refusal.TooManyMerchants ∷
+    refusal.BadUse ∷ refusal.CommandMemory ∷ refusal.CommandStore ∷ refusal.Reopen ∷
+    refusal.WrongSchema ∷ refusal.Damaged ∷ refusal.OpenMemory ∷ refusal.OpenStore ∷
+    refusal.FileRefused ∷ refusal.BadHeader ∷ refusal.BatchRead ∷ refusal.BatchWrite ∷
+    refusal.BatchStore ∷ refusal.BadRecord ∷ refusal.BatchMemory ∷ refusal.BatchSource ∷
+    refusal.BadHead ∷ refusal.HeadTooLarge ∷ refusal.BadLength ∷ refusal.NoCoding ∷
+    refusal.BodyTooLarge ∷ refusal.WireMemory ∷ refusal.NoRoute ∷ refusal.BadMethod ∷ refusal.BadFields ∷
+    refusal.BadBody ∷ refusal.ServiceSource ∷ refusal.ServiceRead ∷ refusal.ServiceWrite ∷
+    refusal.ServiceStore ∷ refusal.ServiceMemory ∷ refusal.NotToml ∷ refusal.UnknownRight ∷
+    refusal.BadKey ∷ refusal.WrongType ∷ refusal.RightsMemory ∷ refusal.BadEnd ∷ refusal.BadLives ∷
+    refusal.Accept ∷ refusal.MomentAhead ∷ []
 
 -- it has the number
 abbrev pub has_number : ℕ → Refusal → Bool
 has_number n refused = number_of refused == n
 
--- the one of these that has the number
-abbrev pub answered_by : ℕ → Option Refusal
-answered_by n = find (has_number n) answered
+-- the one that has the number
+abbrev pub numbered : ℕ → Option Refusal
+numbered n = find (has_number n) refusals
 
 -- what people are told of it
 abbrev pub words_of : Refusal → List ℕ

@@ -1,8 +1,8 @@
 //! The refusals of the whole product. Each has a number with one meaning, and is told by the status of a
-//! message's answer, by the exit status of a run, and by words.
+//! message's answer, and by words.
 ghost use Rattle.std.specs.Prelude.{◌≡◌, option_map};
 ghost use Rattle.std.specs.List.{find};
-ghost use Rattle.vault_refusal.specs.Refusal.{answered_by, has_number, status_of};
+ghost use Rattle.vault_refusal.specs.Refusal.{has_number, numbered, status_of};
 
 use std::error::Error;
 use std::fmt;
@@ -130,7 +130,7 @@ pub enum Refusal {
 }
 
 impl Refusal {
-    ghost use Rattle.vault_refusal.specs.Refusal.{exit_of, number_of, status_of as status_lem, words_of};
+    ghost use Rattle.vault_refusal.specs.Refusal.{number_of, status_of as status_lem, words_of};
 
     /// Its number.
     pub fn number(self) -> u8
@@ -164,49 +164,8 @@ impl Refusal {
             Refusal::WrongUse => 422,
             Refusal::HeadTooLarge => 431,
             Refusal::NoCandidate => 503,
+            Refusal::Full | Refusal::TooManyMerchants => 507,
             _ => OTHER_STATUS,
-        }
-    }
-
-    /// The exit status of a run that it ends; nothing where it ends none.
-    pub fn exit(self) -> Option<u8>
-        ensures { result ≡ exit_of self }
-    {
-        match self {
-            Refusal::BadName
-            | Refusal::NoMerchant
-            | Refusal::NoRight
-            | Refusal::TooManyMerchants
-            | Refusal::NotToml
-            | Refusal::UnknownRight
-            | Refusal::BadKey
-            | Refusal::WrongType
-            | Refusal::BadEnd
-            | Refusal::BadLives
-            | Refusal::MomentAhead => Some(1),
-            Refusal::WrongSchema
-            | Refusal::Damaged
-            | Refusal::OpenMemory
-            | Refusal::OpenStore
-            | Refusal::FileRefused => Some(3),
-            Refusal::CommandMemory
-            | Refusal::CommandStore
-            | Refusal::Reopen
-            | Refusal::BadHeader
-            | Refusal::BatchRead
-            | Refusal::BatchWrite
-            | Refusal::BatchStore
-            | Refusal::BadRecord
-            | Refusal::BatchMemory
-            | Refusal::BatchSource
-            | Refusal::ServiceSource
-            | Refusal::ServiceRead
-            | Refusal::ServiceWrite
-            | Refusal::ServiceStore
-            | Refusal::ServiceMemory
-            | Refusal::RightsMemory
-            | Refusal::Accept => Some(4),
-            _ => None,
         }
     }
 
@@ -291,16 +250,17 @@ impl fmt::Display for Refusal {
 
 impl Error for Refusal {}
 
-/// The HTTP status of a number that no message is answered with.
+/// The HTTP status of a refusal that no message is answered with, and of a number that none has.
 pub const OTHER_STATUS: u16 = 507;
 
-/// All that answer a message, in the order of their numbers.
-const ANSWERED: [Refusal; 27] = [
+/// All of them, in the order of their numbers.
+const ALL: [Refusal; 58] = [
     Refusal::BadNumber,
     Refusal::BadCheck,
     Refusal::BadToken,
     Refusal::BadName,
     Refusal::BadRequestNumber,
+    Refusal::BadMoment,
     Refusal::NoMerchant,
     Refusal::NoRight,
     Refusal::WrongUse,
@@ -314,15 +274,45 @@ const ANSWERED: [Refusal; 27] = [
     Refusal::StillLive,
     Refusal::TooManyMerchants,
     Refusal::BadUse,
+    Refusal::CommandMemory,
+    Refusal::CommandStore,
+    Refusal::Reopen,
+    Refusal::WrongSchema,
+    Refusal::Damaged,
+    Refusal::OpenMemory,
+    Refusal::OpenStore,
+    Refusal::FileRefused,
+    Refusal::BadHeader,
+    Refusal::BatchRead,
+    Refusal::BatchWrite,
+    Refusal::BatchStore,
+    Refusal::BadRecord,
+    Refusal::BatchMemory,
+    Refusal::BatchSource,
     Refusal::BadHead,
     Refusal::HeadTooLarge,
     Refusal::BadLength,
     Refusal::NoCoding,
     Refusal::BodyTooLarge,
+    Refusal::WireMemory,
     Refusal::NoRoute,
     Refusal::BadMethod,
     Refusal::BadFields,
     Refusal::BadBody,
+    Refusal::ServiceSource,
+    Refusal::ServiceRead,
+    Refusal::ServiceWrite,
+    Refusal::ServiceStore,
+    Refusal::ServiceMemory,
+    Refusal::NotToml,
+    Refusal::UnknownRight,
+    Refusal::BadKey,
+    Refusal::WrongType,
+    Refusal::RightsMemory,
+    Refusal::BadEnd,
+    Refusal::BadLives,
+    Refusal::Accept,
+    Refusal::MomentAhead,
 ];
 
 /// Whether a refusal has the number.
@@ -342,9 +332,9 @@ fn status_among(refusals: &[Refusal], number: u8) -> Option<u16>
         .map(|refusal| refusal.status())
 }
 
-/// The HTTP status of the answer with the number of a refusal, where a message is answered with it.
+/// The HTTP status of the refusal with a number, where one has it.
 pub fn status_at(number: u8) -> Option<u16>
-    ensures { result ≡ option_map status_of (answered_by number) }
+    ensures { result ≡ option_map status_of (numbered number) }
 {
-    status_among(&ANSWERED, number)
+    status_among(&ALL, number)
 }

@@ -19,9 +19,9 @@ pub fn status_by(refusal: Refusal) -> u16
     refusal.status()
 }
 
-/// The status of a refusal, by its number. A number that no message is answered with has 507.
+/// The status of a refusal, by its number. A number that none has is answered by 507.
 pub fn status_for(refusal: u8) -> u16
-    // it is the status of the refusal of this number, or that of a number that no message is answered with
+    // it is the status of the refusal of this number, or that of a number that none has
     ensures code { result ≡ code_for refusal }
     // the service answers with this status
     ensures status { IsStatus result }
