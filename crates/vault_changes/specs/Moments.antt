@@ -1,10 +1,8 @@
 -- The moments of a vault's merchants, and how they stand to the clock's.
-use Rattle.std.specs.Prelude.{ℕ, ◌+◌, List, [], ◌∷◌, Bool, false, Option, Some, None, nat_lt, bytes_eq}
-use Rattle.std.specs.Prelude.{if◌then◌else◌, option_map}
+use Rattle.std.specs.Prelude.{ℕ, ◌+◌, Bool, false, Option, nat_lt, option_map}
 use Rattle.std.specs.Option.{option_map_or}
 use Rattle.vault_core.specs.Keys.{Bytes}
 use Rattle.vault_core.specs.Vault.{Merchant, Vault as Content, merchant_at}
-use Rattle.vault_core.specs.declared.row.MerchantRow.{MerchantRow}
 
 -- the most seconds by which a merchant's moment may be ahead of the clock's: those of a day
 abbrev pub most_ahead : ℕ
@@ -33,8 +31,3 @@ is_merchant_ahead V m now = option_map_or (is_far_ahead now) (moment_in V m) fal
 -- the same, where it is so far behind
 abbrev pub is_merchant_behind : Content → Bytes → ℕ → Bool
 is_merchant_behind V m now = option_map_or (is_far_behind now) (moment_in V m) false
-
--- the moment of a merchant by the first row that has its name
-abbrev pub moment_among : Bytes → List (Bytes × MerchantRow) → Option ℕ
-moment_among m [] = None
-moment_among m (row ∷ rows) = if bytes_eq row.0 m then Some row.1.moment else moment_among m rows

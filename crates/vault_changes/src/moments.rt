@@ -1,5 +1,5 @@
 //! The moments of a vault's merchants, and how they stand to the clock's.
-ghost use Rattle.std.specs.Prelude.{◌≡◌, Err, IfErr, IfOk, Option, false};
+ghost use Rattle.std.specs.Prelude.{◌≡◌, Err, IfErr, IfOk, Option, false, option_map};
 ghost use Rattle.vault_core.specs.Vault.{Vault as Content};
 ghost use Rattle.vault_store.specs.Applied.{is_broken, tables_of};
 ghost use Rattle.vault_engine.specs.Passing.{IsBefore, Keeps, Passage};
@@ -7,12 +7,12 @@ ghost use Rattle.vault_listen.specs.Peers.{vault_passing};
 ghost use Rattle.vault_changes.specs.Failing.{BreaksByStore};
 ghost use Rattle.vault_changes.specs.Moments.{is_far_ahead as is_far_ahead_of};
 ghost use Rattle.vault_changes.specs.Moments.{is_far_behind as is_far_behind_of};
-ghost use Rattle.vault_changes.specs.Moments.{moment_among, moment_in};
+ghost use Rattle.vault_changes.specs.Moments.{moment_in};
 ghost use Rattle.vault_changes.specs.Settling.{FailsToRead};
 
 use vault_core::moment::Moment;
 use vault_core::name::MerchantId;
-use vault_store::listing::NamedRow;
+use vault_core::row::MerchantRow;
 use vault_store::tables::Tables;
 use vault_store::vault::{Fault, Vault};
 
@@ -36,16 +36,11 @@ pub fn is_far_behind(moment: Moment, now: Moment) -> bool
     now.seconds() > moment.seconds() + MOST_BEHIND
 }
 
-/// The moment of a merchant by the first row that has its name.
-fn moment_by(rows: &[NamedRow], merchant: MerchantId) -> Option<Moment>
-    ensures { result ≡ moment_among merchant rows.now }
+/// The moment in a merchant's row, where there is one.
+fn moment_in_row(row: Option<MerchantRow>) -> Option<Moment>
+    ensures { result ≡ option_map (λ found. found.moment) row }
 {
-    for (name, row) in rows {
-        if *name == merchant {
-            return Some(row.moment);
-        }
-    }
-    None
+    row.map(|row| row.moment)
 }
 
 /// The moment of a merchant, where the vault knows it. Nothing changes.
@@ -71,8 +66,8 @@ pub fn moment_of<T: Tables>(
     // a disk that is honest after the call was so before it
     ensures disk_honest { T.is_honest (tables_of vault.new) → T.is_honest (tables_of vault.old) }
 {
-    match vault.merchants() {
-        Ok(rows) => Ok(moment_by(rows.as_slice(), merchant)),
+    match vault.merchant(merchant) {
+        Ok(row) => Ok(moment_in_row(row)),
         Err(fault) => Err(fault),
     }
 }

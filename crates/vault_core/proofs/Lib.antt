@@ -8,6 +8,7 @@ pub mod Digits
 pub mod DrawLemmas
 pub mod Empty
 pub mod Finds
+pub mod Fitting
 pub mod Isolated
 pub mod Kept
 pub mod Maps

@@ -1,4 +1,4 @@
--- The merchant that the window of a Tokenize shows.
+-- The merchant that the window of a Tokenize without a record shows.
 use Rattle.std.proofs.Common.{◌≡◌, Option, Some, None, refl, sym, ap, ◌∙◌}
 use Rattle.std.specs.Prelude.{option_map}
 use Rattle.vault_core.specs.Sound.{Sound}
@@ -6,7 +6,7 @@ use Rattle.vault_core.specs.Repeats.{current, reusable}
 use Rattle.vault_core.specs.Vault.{Vault, Merchant, merchant_at}
 use Rattle.std.specs.Option.{option_map_or}
 use Rattle.vault_core.specs.Vault.{entitled, time_at}
-use Rattle.vault_core.specs.Window.{ShowsRequest, ShowsMerchant, row_of}
+use Rattle.vault_core.specs.Window.{ShowsNewRequest, ShowsMerchant, row_of}
 use Rattle.vault_core.specs.declared.command.TokenRequest.{TokenRequest}
 use Rattle.vault_core.specs.declared.right.Right.TheVariants as right
 use Rattle.vault_core.specs.declared.row.MerchantRow.{MerchantRow}
@@ -15,7 +15,7 @@ use Rattle.vault_core.proofs.Redeemed.{moment_known}
 use Rattle.vault_core.proofs.StaysSound.{life-bounds}
 
 pub shows_merchant : (V : Vault) → Sound V → (a : TokenRequest) (w : Window) (row : MerchantRow)
-    → ShowsRequest V a w
+    → ShowsNewRequest V a w
     → w.merchant ≡ Some row → (known : Merchant) × ShowsMerchant V a known w row
 shows_merchant V s a w row shows is = go (merchant_at V a.merchant) refl
   where

@@ -1,5 +1,5 @@
 -- The rows that a command needs.
-use Rattle.std.specs.Prelude.{◌≡◌, ℕ, Option, Some, None, IfSome, false, option_map}
+use Rattle.std.specs.Prelude.{◌≡◌, ℕ, Option, Some, None, IfSome, IfNone, false, option_map}
 use Rattle.std.specs.Option.{option_map_or}
 use Rattle.std.specs.FinMap as map
 use Rattle.vault_core.specs.Draw.{chosen_token}
@@ -33,13 +33,18 @@ row_at V m = option_map (row_of V m) (merchant_at V m)
 abbrev pub moment_at : Vault → Bytes → ℕ → ℕ
 moment_at V m now = option_map_or (λ merchant. time_at merchant now) (merchant_at V m) now
 
--- what the vault holds at the places that a Tokenize needs
-pub record ShowsRequest (V : Vault) (a : TokenRequest) (w : Window) : Type 0 where
+-- what the vault holds at the places that a Tokenize without a record needs: a candidate only where no live
+-- token is given again
+pub record ShowsNewRequest (V : Vault) (a : TokenRequest) (w : Window) : Type 0 where
   pub merchant : w.merchant ≡ row_at V a.merchant
   pub right : w.right ≡ entitled V a.caller a.merchant right.Tokenize (moment_at V a.merchant a.moment)
-  pub before : w.recorded ≡ record_with_entry V a.caller a.request
   pub held : w.current ≡ reusable a.usage (current V a.merchant a.pan (moment_at V a.merchant a.moment))
-  pub candidate : w.candidate ≡ chosen_token V a.merchant a.pan a.digits
+  pub candidate : IfNone w.current (w.candidate ≡ chosen_token V a.merchant a.pan a.digits)
+
+-- what the vault holds at the places that a Tokenize needs: its record, and the others where none stands
+pub record ShowsRequest (V : Vault) (a : TokenRequest) (w : Window) : Type 0 where
+  pub before : w.recorded ≡ record_with_entry V a.caller a.request
+  pub others : IfNone w.recorded (ShowsNewRequest V a w)
 
 -- what the vault holds at the places that a command on a token needs
 pub record ShowsToken (V : Vault) (t : TokenCommand) (w : Window) : Type 0 where
@@ -73,7 +78,7 @@ empty_window =
       named = None;
     }
 
--- the window of a Tokenize shows a merchant that is known
+-- the window of a Tokenize without a record shows a merchant that is known
 pub record ShowsMerchant (V : Vault) (a : TokenRequest) (known : Merchant) (w : Window)
     (row : MerchantRow) : Type 0 where
   pub known_as : merchant_at V a.merchant ≡ Some known
@@ -82,4 +87,4 @@ pub record ShowsMerchant (V : Vault) (a : TokenRequest) (known : Merchant) (w : 
   pub right : w.right ≡ entitled V a.caller a.merchant right.Tokenize (time_at known a.moment)
   pub held : w.current ≡ reusable a.usage (current V a.merchant a.pan (time_at known a.moment))
   pub life : IsLife (life_for a.usage known.single_life known.multi_life)
-  pub candidate : w.candidate ≡ chosen_token V a.merchant a.pan a.digits
+  pub candidate : IfNone w.current (w.candidate ≡ chosen_token V a.merchant a.pan a.digits)

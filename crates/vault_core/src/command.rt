@@ -2,6 +2,7 @@
 ghost use Rattle.std.specs.Prelude.{IsTrue, ◌↔◌, ◌≡◌};
 ghost use Rattle.vault_core.specs.Lives.{setting as setting_lem};
 ghost use Rattle.vault_core.specs.Named.{token_command, token_command_in};
+ghost use Rattle.vault_core.specs.Table.{token_request};
 
 use crate::limit::LONGEST_LIFE;
 use crate::moment::Moment;
@@ -98,6 +99,31 @@ pub struct TokenRequest {
     pub pan: Pan,
     pub digits: Digits,
     pub moment: Moment,
+}
+
+impl TokenRequest {
+    /// The one with these parts.
+    pub fn new(
+        caller: Caller,
+        merchant: MerchantId,
+        request: RequestNo,
+        usage: Use,
+        pan: Pan,
+        digits: Digits,
+        moment: Moment,
+    ) -> TokenRequest
+        ensures { result ≡ token_request caller merchant request usage pan digits moment }
+    {
+        TokenRequest {
+            caller,
+            merchant,
+            request,
+            usage,
+            pan,
+            digits,
+            moment,
+        }
+    }
 }
 
 /// The parts of a command on one token, with the right that it asks for.

@@ -2,7 +2,7 @@
 ghost use Rattle.std.specs.Prelude.{◌≡◌};
 ghost use Rattle.vault_core.specs.Changes.{Decides, FitsVault, RefusesQuietly, WritesNothing, no_changes};
 ghost use Rattle.vault_core.specs.Parts.{command_with};
-ghost use Rattle.vault_core.specs.Proper.{HasLivesInRange};
+ghost use Rattle.vault_core.specs.Proper.{HasLivesInRange, IsProper};
 
 mod answer;
 mod merchant;
@@ -38,30 +38,35 @@ pub fn decide(w: &Window, c: &Command) -> (Reply, Changes)
     // a View, an Audit, and a Tokenize that the window shows to be recorded change nothing
     ensures silent { WritesNothing w.now c.now → result.1 ≡ no_changes }
 {
-    settled(w, &Parts::of(c))
+    settle(w, &Parts::of(c))
 }
 
-/// Each command in its own function.
-fn settled(w: &Window, parts: &Parts) -> (Reply, Changes)
-    requires { HasLivesInRange (command_with parts.now) }
+/// The answer to a command that is taken apart, and what it changes: each in its own function.
+pub fn settle(w: &Window, parts: &Parts) -> (Reply, Changes)
+    // all parts of the command are values of their types
+    requires { IsProper (command_with parts.now) }
     // of whatever sound vault the window is, the decision is the command's outcome
     ensures settles { Decides w.now (command_with parts.now) result }
+    // of whatever sound vault the window is, the changes fit it
+    ensures fits { FitsVault w.now (command_with parts.now) result.1 }
     // a refusal changes nothing, but that a denial is counted
     ensures refusals { RefusesQuietly (command_with parts.now) result.0 result.1 }
     // a View, an Audit, and a Tokenize that the window shows to be recorded change nothing
     ensures silent { WritesNothing w.now (command_with parts.now) → result.1 ≡ no_changes }
 {
-    match *parts {
-        Parts::SetMerchant(merchant, handed) => set_merchant(w, merchant, handed),
+    match parts {
+        Parts::SetMerchant(merchant, handed) => set_merchant(w, *merchant, *handed),
         Parts::Grant(caller, merchant, right, until, now) => grant(
-            w, caller, merchant, right, until, now,
+            w, *caller, *merchant, *right, *until, *now,
         ),
-        Parts::Withdraw(caller, merchant, right, now) => withdraw(w, caller, merchant, right, now),
-        Parts::Tokenize(asked) => tokenize(w, &asked),
-        Parts::Detokenize(asked) => detokenize(w, &asked),
-        Parts::View(asked) => view(w, &asked),
-        Parts::Revoke(asked) => revoke(w, &asked),
-        Parts::Purge(asked) => purge(w, &asked),
-        Parts::Audit(caller, merchant, now) => audit(w, caller, merchant, now),
+        Parts::Withdraw(caller, merchant, right, now) => withdraw(
+            w, *caller, *merchant, *right, *now,
+        ),
+        Parts::Tokenize(asked) => tokenize(w, asked),
+        Parts::Detokenize(asked) => detokenize(w, asked),
+        Parts::View(asked) => view(w, asked),
+        Parts::Revoke(asked) => revoke(w, asked),
+        Parts::Purge(asked) => purge(w, asked),
+        Parts::Audit(caller, merchant, now) => audit(w, *caller, *merchant, *now),
     }
 }

@@ -26,7 +26,8 @@ pub enum Parts {
 }
 
 impl Parts {
-    /// Those of a command.
+    /// Those of a command. A name or a moment that no call hands on is read, since what its type promises is
+    /// known where it was.
     pub fn of(c: &Command) -> Parts
         // the command has these parts
         ensures command { command_with result ≡ c.now }
@@ -35,27 +36,37 @@ impl Parts {
         // where its lives are in range, all parts of the command are values of their types
         ensures typed { HasLivesInRange c.now → IsProper c.now }
     {
-        let parts = match *c {
+        match *c {
             Command::SetMerchant {
                 merchant,
                 single_life,
                 multi_life,
                 lead,
                 now,
-            } => Parts::SetMerchant(merchant, Lives::new(single_life, multi_life, lead, now)),
+            } => {
+                read_merchant(merchant);
+                Parts::SetMerchant(merchant, Lives::new(single_life, multi_life, lead, now))
+            }
             Command::Grant {
                 caller,
                 merchant,
                 right,
                 until,
                 now,
-            } => Parts::Grant(caller, merchant, right, until, now),
+            } => {
+                read_end(&until);
+                read_asker(caller, merchant, now);
+                Parts::Grant(caller, merchant, right, until, now)
+            }
             Command::Withdraw {
                 caller,
                 merchant,
                 right,
                 now,
-            } => Parts::Withdraw(caller, merchant, right, now),
+            } => {
+                read_asker(caller, merchant, now);
+                Parts::Withdraw(caller, merchant, right, now)
+            }
             Command::Tokenize {
                 caller,
                 merchant,
@@ -64,15 +75,9 @@ impl Parts {
                 pan,
                 digits,
                 now,
-            } => Parts::Tokenize(TokenRequest {
-                caller,
-                merchant,
-                request,
-                usage,
-                pan,
-                digits,
-                moment: now,
-            }),
+            } => Parts::Tokenize(TokenRequest::new(
+                caller, merchant, request, usage, pan, digits, now,
+            )),
             Command::Detokenize {
                 caller,
                 merchant,
@@ -107,41 +112,9 @@ impl Parts {
                 caller,
                 merchant,
                 now,
-            } => Parts::Audit(caller, merchant, now),
-        };
-        parts.read();
-        parts
-    }
-
-    /// All but the lives of a SetMerchant are proper. Each is read, since what its type promises is known
-    /// where it was.
-    fn read(&self)
-        ensures { HasLivesInRange (command_with self.now) → IsProper (command_with self.now) }
-    {
-        match *self {
-            Parts::SetMerchant(merchant, lives) => {
-                let _merchant = merchant.bytes();
-                let _moment = lives.moment.seconds();
-            }
-            Parts::Grant(caller, merchant, _, until, now) => {
-                read_end(until);
+            } => {
                 read_asker(caller, merchant, now);
-            }
-            Parts::Withdraw(caller, merchant, _, now) | Parts::Audit(caller, merchant, now) => {
-                read_asker(caller, merchant, now);
-            }
-            Parts::Tokenize(asked) => {
-                let _request = asked.request.get();
-                let _pan = asked.pan.digits();
-                let _digits = asked.digits.values();
-                read_asker(asked.caller, asked.merchant, asked.moment);
-            }
-            Parts::Detokenize(asked)
-            | Parts::View(asked)
-            | Parts::Revoke(asked)
-            | Parts::Purge(asked) => {
-                let _token = asked.token.digits();
-                read_asker(asked.caller, asked.merchant, asked.moment);
+                Parts::Audit(caller, merchant, now)
             }
         }
     }
@@ -151,16 +124,23 @@ impl Parts {
 fn read_asker(caller: Caller, merchant: MerchantId, now: Moment)
     ensures { IsName caller × IsName merchant × IsMoment now }
 {
+    read_merchant(merchant);
     let _caller = caller.bytes();
-    let _merchant = merchant.bytes();
     let _now = now.seconds();
 }
 
-/// Reads the end of a right, where there is one.
-fn read_end(until: Option<Moment>)
-    ensures { IfSome until IsMoment }
+/// Reads the name of a merchant.
+fn read_merchant(merchant: MerchantId)
+    ensures { IsName merchant }
 {
-    if let Some(end) = until {
+    let _merchant = merchant.bytes();
+}
+
+/// Reads the end of a right, where there is one.
+fn read_end(until: &Option<Moment>)
+    ensures { IfSome until.now IsMoment }
+{
+    if let Some(end) = *until {
         let _end = end.seconds();
     }
 }

@@ -7,6 +7,7 @@ ghost use Rattle.vault_core.specs.Proper.{HasLivesInRange};
 ghost use Rattle.vault_core.specs.Sound.{Sound};
 ghost use Rattle.vault_core.specs.Table.{after as after_lem, reply as reply_lem};
 ghost use Rattle.vault_core.specs.Vault.{Vault as Content};
+ghost use Rattle.vault_core.specs.Window.{row_at};
 ghost use Rattle.vault_store.specs.Added.{AddsNothing};
 ghost use Rattle.vault_store.specs.Left.{LeavesBy};
 ghost use Rattle.vault_store.specs.Listed.{merchant_rows};
@@ -14,12 +15,14 @@ ghost use Rattle.vault_store.specs.Reads.{FailsWith, IsAllowed, KeepsOnMemory};
 
 use crate::listing::{NamedRow, named_rows};
 use crate::tables::{RightRow, Tables, TablesFault};
-use crate::window::window;
+use crate::window::window_of;
 use vault_core::command::Command;
-use vault_core::decide::decide;
+use vault_core::decide::settle;
 use vault_core::moment::Moment;
 use vault_core::name::MerchantId;
+use vault_core::parts::Parts;
 use vault_core::reply::Reply;
+use vault_core::row::MerchantRow;
 use vault_pan::token::Token;
 use vault_refusal::refusal::Refusal;
 
@@ -164,6 +167,20 @@ impl<T: Tables> Vault<T> {
         }
     }
 
+    /// The row of a merchant, where the vault knows it. Nothing changes.
+    pub fn merchant(&mut self, m: MerchantId) -> Result<Option<MerchantRow>, Fault>
+        ensures { Lists T.Tables self.old self.new result (λ V found. found ≡ row_at V m) }
+    {
+        if self.broken {
+            Err(Fault::Reopen)
+        } else {
+            match self.tables.merchant(m) {
+                Ok(found) => Ok(found),
+                Err(fault) => Err(self.fault_of(fault)),
+            }
+        }
+    }
+
     /// The fault of the vault by that of its tables. A Store fault breaks the vault.
     fn fault_of(&mut self, fault: TablesFault) -> Fault
         ensures fault { result ≡ tables_fault fault }
@@ -222,8 +239,9 @@ fn answer<T: Tables>(tables: &mut T, c: &Command) -> Result<Reply, TablesFault>
     // tables that can't fail give no Store fault
     ensures infallible { T.may_fail ≡ false → ¬ (result ≡ Err TablesFault.Store) }
 {
-    let seen = window(tables, c)?;
-    let (reply, changes) = decide(&seen, c);
+    let parts = Parts::of(c);
+    let seen = window_of(tables, &parts)?;
+    let (reply, changes) = settle(&seen, &parts);
     if !changes.is_none() {
         tables.write(&changes)?;
     }

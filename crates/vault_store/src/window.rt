@@ -3,6 +3,7 @@ ghost use Rattle.std.specs.Prelude.{◌≡◌, option_map};
 ghost use Rattle.std.specs.Option.{option_map_or};
 ghost use Rattle.vault_store.specs.LookUps.{LooksUp};
 ghost use Rattle.vault_core.specs.Draw.{chosen_token};
+ghost use Rattle.vault_core.specs.Parts.{AsksByRight, command_with};
 ghost use Rattle.vault_core.specs.Repeats.{current, record_with_entry, reusable as reusable_lem};
 ghost use Rattle.vault_core.specs.Vault.{Vault, entitled};
 ghost use Rattle.vault_core.specs.Window.{IsWindow, ShowsRequest, ShowsToken, moment_at};
@@ -24,9 +25,20 @@ use vault_pan::token::Token;
 pub fn window<T: Tables>(tables: &mut T, c: &Command) -> Result<Window, TablesFault>
     ensures { LooksUp T.Tables tables.old tables.new result (λ V found. IsWindow V c.now found) }
 {
-    match Parts::of(c) {
+    window_of(tables, &Parts::of(c))
+}
+
+/// The window of a command that is taken apart.
+pub(crate) fn window_of<T: Tables>(tables: &mut T, parts: &Parts) -> Result<Window, TablesFault>
+    // the parts of a command on a token have its own right
+    requires { AsksByRight parts.now }
+    // what is found is the window of the command that has these parts
+    ensures { LooksUp T.Tables tables.old tables.new result
+        (λ V found. IsWindow V (command_with parts.now) found) }
+{
+    match parts {
         Parts::SetMerchant(merchant, _) => {
-            let row = tables.merchant(merchant)?;
+            let row = tables.merchant(*merchant)?;
             let merchants = tables.merchants()?;
             Ok(Window {
                 merchant: row,
@@ -35,21 +47,21 @@ pub fn window<T: Tables>(tables: &mut T, c: &Command) -> Result<Window, TablesFa
             })
         }
         Parts::Grant(_, merchant, ..) | Parts::Withdraw(_, merchant, ..) => {
-            let row = tables.merchant(merchant)?;
+            let row = tables.merchant(*merchant)?;
             Ok(Window {
                 merchant: row,
                 ..Window::empty()
             })
         }
-        Parts::Tokenize(asked) => request_window(tables, &asked),
+        Parts::Tokenize(asked) => request_window(tables, asked),
         Parts::Detokenize(asked)
         | Parts::View(asked)
         | Parts::Revoke(asked)
-        | Parts::Purge(asked) => token_window(tables, &asked),
+        | Parts::Purge(asked) => token_window(tables, asked),
         Parts::Audit(caller, merchant, now) => {
-            let row = tables.merchant(merchant)?;
-            let at = moment_of(&row, now);
-            let right = is_entitled(tables, caller, merchant, Right::Audit, at)?;
+            let row = tables.merchant(*merchant)?;
+            let at = moment_of(&row, *now);
+            let right = is_entitled(tables, *caller, *merchant, Right::Audit, at)?;
             Ok(Window {
                 merchant: row,
                 right,
@@ -75,24 +87,33 @@ fn token_window<T: Tables>(tables: &mut T, asked: &TokenCommand) -> Result<Windo
     })
 }
 
-/// The window of a Tokenize.
+/// The window of a Tokenize. Where its record stands nothing else is read, and where a live token is given
+/// again no candidate is looked for.
 fn request_window<T: Tables>(tables: &mut T, asked: &TokenRequest) -> Result<Window, TablesFault>
     ensures { LooksUp T.Tables tables.old tables.new result (λ V found. ShowsRequest V asked.now found) }
 {
+    let recorded = recorded_entry(tables, asked)?;
+    if recorded.is_some() {
+        return Ok(Window {
+            recorded,
+            ..Window::empty()
+        });
+    }
     let merchant = tables.merchant(asked.merchant)?;
     let at = moment_of(&merchant, asked.moment);
     let right = is_entitled(tables, asked.caller, asked.merchant, Right::Tokenize, at)?;
-    let recorded = recorded_entry(tables, asked)?;
     let current = reusable(tables, asked, at)?;
-    let candidate = first_good(tables, asked)?;
-    Ok(Window {
+    let known = Window {
         merchant,
         right,
-        recorded,
         current,
-        candidate,
         ..Window::empty()
-    })
+    };
+    if current.is_some() {
+        return Ok(known);
+    }
+    let candidate = first_good(tables, asked)?;
+    Ok(Window { candidate, ..known })
 }
 
 /// The moment of a command at a merchant.

@@ -6,8 +6,9 @@ use Rattle.vault_core.proofs.decide.token.new_request.Goals as goal
 
 pub returns-clause-yields : goal.returns-clause-yields
 returns-clause-yields c V known shows =
+    let candidate = rw c.in_default.is at shows.candidate in
     let new : is_none (entry_at V c.args.asked.now.merchant c.in-Some-candidate.token) ≡ true =
     chosen-new V _ c.args.asked.now.pan c.args.asked.now.digits c.in-Some-candidate.token
-    (sym shows.candidate ∙ c.in-Some-candidate.is)
+    (sym candidate ∙ c.in-Some-candidate.is)
     in
     grind (arith, common_steps)
