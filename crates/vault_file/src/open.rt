@@ -40,7 +40,7 @@ pub fn open_from<P: Paths>(
 ) -> Result<Vault<TablesAt<P>>, (NotOpened, Option<Connection<FileStore<P::Disk>>>)>
     // words that name no file are refused by 34
     ensures no_path { IsNoPath path.now → IsRefused result }
-    // with Ok, the vault isn't broken, and its tables haven't failed and have no place
+    // with Ok, the vault isn't broken, and its tables haven't failed, have no place and remember nothing
     ensures fresh { IfOk result (λ vault. (is_broken vault ≡ false) × AreFresh (tables_of vault)) }
     // with Ok, on an honest disk, a sound vault that the bytes kept is held, or one of two, or the empty one
     ensures found { IfOk result (λ vault. Each (P.holds paths path.now)
@@ -84,7 +84,7 @@ pub fn open_vault<P: Paths>(
 ) -> Result<Vault<TablesAt<P>>, (NotOpened, Option<FileStore<P::Disk>>)>
     // words that name no file are refused by 34
     ensures no_path { IsNoPath path.now → IsRefused result }
-    // with Ok, the vault isn't broken, and its tables haven't failed and have no place
+    // with Ok, the vault isn't broken, and its tables haven't failed, have no place and remember nothing
     ensures fresh { IfOk result (λ vault. (is_broken vault ≡ false) × AreFresh (tables_of vault)) }
     // with Ok, on an honest disk, a sound vault that the bytes kept is held, or one of two, or the empty one
     ensures found { IfOk result (λ vault. Each (P.holds paths path.now)

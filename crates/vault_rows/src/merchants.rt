@@ -153,7 +153,7 @@ pub fn set_lives<S: Alter>(
 }
 
 /// Writes the own row of a merchant, whether or not it was there.
-fn put_merchant<S: Alter>(tx: &mut Transaction<'_, S>, m: &str, x: &Lives) -> Result<(), Error>
+pub fn put_merchant<S: Alter>(tx: &mut Transaction<'_, S>, m: &str, x: &Lives) -> Result<(), Error>
     requires single { x.now.single_life < 2 ^ 63 }
     requires multi { x.now.multi_life < 2 ^ 63 }
     ensures { Inside S.Store tx.old tx.new (Makes newest result

@@ -1,4 +1,6 @@
 pub mod Gathered
 pub mod Held
+pub mod KnownLives
 pub mod Places
+pub mod Remembered
 pub mod Storable

@@ -4,6 +4,7 @@
 mod names;
 pub mod open;
 pub mod place;
+pub mod remembered;
 mod rights;
 pub mod tables;
 mod tokens;

@@ -100,7 +100,7 @@ pub fn open<S: Alter>(
     requires idle { conn.in_transaction ≡ false }
     // its statements may take any number of steps
     requires unlimited { conn.step_limit ≡ None }
-    // with Ok, the vault isn't broken, and its tables haven't failed and have no place
+    // with Ok, the vault isn't broken, and its tables haven't failed, have no place and remember nothing
     ensures fresh { IfOk result (λ vault. (is_broken vault ≡ false) × AreFresh (tables_of vault)) }
     // with Ok, on an honest disk, a sound vault is held where tables have full rows, and the empty one where
     // there are none

@@ -3,6 +3,7 @@ ghost use Rattle.std.specs.Prelude.{◌≡◌, true, false, Err};
 
 use crate::names::names_in;
 use crate::place::{Place, place_after, place_of};
+use crate::remembered::Remembered;
 use crate::rights::rights_of;
 use crate::tokens::{dead_from, tokens_of};
 use crate::transaction::{are_storable, write};
@@ -23,12 +24,14 @@ use vault_rows::rights::{all_rights, right};
 use vault_store::tables::{RightRow, Tables, TablesFault};
 
 /// Tables in a database, which fail from the first call on that the database refused. They remember where
-/// the last list of dead tokens began, since the next one needs to look at none before.
+/// the last list of dead tokens began, since the next one needs to look at none before; and the rows of
+/// merchants and the rights that they read last, since nobody else writes the file.
 pub struct SqlTables<S: Alter> {
     alloc: Global,
     conn: Connection<S>,
     failed: bool,
     place: Option<Place>,
+    remembered: Remembered,
     ghost idle: { conn.in_transaction ≡ false },
 }
 
@@ -40,7 +43,7 @@ impl<S: Alter> SqlTables<S> {
     pub fn on(alloc: Global, conn: Connection<S>) -> SqlTables<S>
         requires { conn.in_transaction ≡ false }
         ensures conn { result.conn ≡ conn }
-        // no call of the tables has failed, and they have no place
+        // no call of the tables has failed, they have no place, and they remember nothing
         ensures fresh { AreFresh result }
     {
         SqlTables {
@@ -48,6 +51,7 @@ impl<S: Alter> SqlTables<S> {
             conn,
             failed: false,
             place: None,
+            remembered: Remembered::new(),
         }
     }
 
@@ -60,6 +64,7 @@ impl<S: Alter> SqlTables<S> {
             conn,
             failed: _,
             place: _,
+            remembered: _,
         } = self;
         conn
     }
@@ -115,8 +120,14 @@ impl<S: Alter> Tables for SqlTables<S> {
         if self.failed {
             return Err(TablesFault::Store);
         }
+        if let Some(row) = self.remembered.merchant(&m) {
+            return Ok(Some(row));
+        }
         match merchant(&mut self.conn, &m) {
-            Ok(found) => Ok(found),
+            Ok(found) => {
+                self.remembered.keep_merchant(m, &found);
+                Ok(found)
+            }
             Err(_) => self.fail(),
         }
     }
@@ -142,8 +153,14 @@ impl<S: Alter> Tables for SqlTables<S> {
         if self.failed {
             return Err(TablesFault::Store);
         }
+        if let Some(found) = self.remembered.right(&c, &m, r) {
+            return Ok(found);
+        }
         match right(&mut self.conn, &c, &m, r) {
-            Ok(found) => Ok(found),
+            Ok(found) => {
+                self.remembered.keep_right(c, m, r, &found);
+                Ok(found)
+            }
             Err(_) => self.fail(),
         }
     }
@@ -241,9 +258,11 @@ impl<S: Alter> Tables for SqlTables<S> {
         if !are_storable(ch) {
             return self.fail();
         }
-        match write(&mut self.conn, ch) {
+        let known = self.remembered.lives_before(&ch.lives);
+        match write(&mut self.conn, ch, &known) {
             Ok(()) => {
                 self.place = place_after(&self.place, ch);
+                self.remembered.change(ch);
                 Ok(())
             }
             Err(_) => self.fail(),

@@ -1,8 +1,8 @@
 //! All that one command changes, in one transaction.
-ghost use Rattle.std.specs.Prelude.{◌≡◌, ◌↔◌, IsTrue, false, OnOk};
+ghost use Rattle.std.specs.Prelude.{◌≡◌, ◌↔◌, ◌<◌, ◌^◌, IsTrue, Some, false, OnOk};
 ghost use Rattle.sqlite.specs.Held.{state};
 ghost use Rattle.vault_core.specs.Changes.{Fit, plus};
-ghost use Rattle.vault_core.specs.Keys.{right_cmp};
+ghost use Rattle.vault_core.specs.Keys.{bytes_cmp, right_cmp};
 ghost use Rattle.vault_core.specs.Sound.{Sound};
 ghost use Rattle.vault_core.specs.Vault.{Vault};
 ghost use Rattle.sqlite.specs.State.{HasCleanDisk};
@@ -11,6 +11,8 @@ ghost use Rattle.sql_maps.specs.Transactions.{Inside, KeepsDoubts};
 ghost use Rattle.vault_schema.specs.Versions.{newest};
 ghost use Rattle.vault_cards.specs.Calls.{Makes};
 ghost use Rattle.vault_schema.specs.Holds.{Holds, LeavesEither};
+ghost use Rattle.vault_schema.specs.Stands.{lookups_of};
+ghost use Rattle.vault_sql.specs.KnownLives.{AreBefore, AreThere};
 ghost use Rattle.vault_sql.specs.Storable.{AreStorable, IsStorableEntry, IsStorableLives};
 ghost use Rattle.vault_rows.specs.Written.{HasRoom, put_entry as put_entry_lem};
 ghost use Rattle.vault_rows.specs.Written.{put_lives, put_record as put_record_lem, put_right};
@@ -27,7 +29,7 @@ use vault_core::request::RequestNo;
 use vault_core::right::Right;
 use vault_core::row::{Entry, GrantRow, Lives, Record};
 use vault_pan::token::Token;
-use vault_rows::merchants::{raise, set_lives};
+use vault_rows::merchants::{put_merchant, raise, set_lives};
 use vault_rows::records::add_record;
 use vault_rows::rights::{give, take};
 
@@ -58,18 +60,41 @@ pub(crate) fn are_storable(ch: &Changes) -> bool
     are_storable_lives(&ch.lives) && is_storable_entry(&ch.entry)
 }
 
-/// Writes the own row of a merchant.
+/// Writes the own row of a merchant where it has another or isn't there. Where its lives are known, it isn't
+/// looked at.
+fn set_merchant<S: Alter>(
+    tx: &mut Transaction<'_, S>,
+    m: &MerchantId,
+    x: &Lives,
+    known: &Option<Lives>,
+) -> Result<(), StoreFault>
+    requires single { x.now.single_life < 2 ^ 63 }
+    requires multi { x.now.multi_life < 2 ^ 63 }
+    ensures { Inside S.Store tx.old tx.new (Makes newest result
+        (λ h. AreThere known.now (h.merchants m.now))
+        (λ h. record h { merchants = put bytes_cmp h.merchants m.now (Some x.now) })) }
+{
+    match known {
+        Some(was) if *was == *x => Ok(()),
+        Some(_) => Ok(put_merchant(tx, merchant_text(m), x)?),
+        None => set_lives(tx, merchant_text(m), x),
+    }
+}
+
+/// Writes the own row of a merchant, whose lives as they were may be known.
 fn write_lives<S: Alter>(
     tx: &mut Transaction<'_, S>,
     lives: &Option<(MerchantId, Lives)>,
+    known: &Option<Lives>,
 ) -> Result<(), StoreFault>
     // the lives that change, if any, fit the columns
     requires { IsStorableLives lives.now }
     ensures { Inside S.Store tx.old tx.new (Makes newest result
-        (λ _. Unit {0}) (λ h. record h { merchants = put_lives h.merchants lives.now })) }
+        (λ h. AreBefore lives.now known.now h.merchants)
+        (λ h. record h { merchants = put_lives h.merchants lives.now })) }
 {
     match lives {
-        Some((m, x)) => set_lives(tx, merchant_text(m), x),
+        Some((m, x)) => set_merchant(tx, m, x, known),
         None => Ok(()),
     }
 }
@@ -162,17 +187,22 @@ fn write_right<S: Alter>(
 }
 
 /// Writes what changes of a merchant and its entries.
-fn write_merchant<S: Alter>(tx: &mut Transaction<'_, S>, ch: &Changes) -> Result<(), StoreFault>
+fn write_merchant<S: Alter>(
+    tx: &mut Transaction<'_, S>,
+    ch: &Changes,
+    known: &Option<Lives>,
+) -> Result<(), StoreFault>
     // the numbers of the changes fit the columns
     requires { AreStorable ch.now }
     ensures { Inside S.Store tx.old tx.new (Makes newest result
-        (λ h. HasRoom h.counts ch.now.lives ch.now.count) (λ h. record h {
+        (λ h. AreBefore ch.now.lives known.now h.merchants × HasRoom h.counts ch.now.lives ch.now.count)
+        (λ h. record h {
           merchants = put_lives h.merchants ch.now.lives;
           counts = raise_lem h.counts ch.now.lives ch.now.count;
           entries = put_entry_lem h.entries ch.now.entry;
         })) }
 {
-    write_lives(tx, &ch.lives)?;
+    write_lives(tx, &ch.lives, known)?;
     write_count(tx, &ch.lives, ch.count)?;
     write_entry(tx, &ch.entry, ch.count)
 }
@@ -187,8 +217,12 @@ fn write_caller<S: Alter>(tx: &mut Transaction<'_, S>, ch: &Changes) -> Result<(
     write_right(tx, &ch.right)
 }
 
-/// Makes the changes in one transaction, all of them or none.
-pub(crate) fn write<S: Alter>(conn: &mut Connection<S>, ch: &Changes) -> Result<(), StoreFault>
+/// Makes the changes in one transaction, all of them or none. The lives that the merchant had may be known.
+pub(crate) fn write<S: Alter>(
+    conn: &mut Connection<S>,
+    ch: &Changes,
+    known: &Option<Lives>,
+) -> Result<(), StoreFault>
     // the numbers of the changes fit the columns
     requires storable { AreStorable ch.now }
     // the connection is outside a transaction
@@ -197,17 +231,19 @@ pub(crate) fn write<S: Alter>(conn: &mut Connection<S>, ch: &Changes) -> Result<
     ensures idle { conn.new.in_transaction ≡ false }
     // a disk that is honest after the call was so before it
     ensures clean { KeepsDoubts S.Store conn.old conn.new }
-    // with Ok, on an honest disk, a sound vault that was held and that the changes fit is held with them
+    // with Ok, on an honest disk, a sound vault that was held, whose lives were known so, and that the
+    // changes fit is held with them
     ensures done { HasCleanDisk (state S.Store conn.new)
-        → OnOk result ((V : Vault) → Holds (state S.Store conn.old) V → Sound V → Fit V ch.now
+        → OnOk result ((V : Vault) → Holds (state S.Store conn.old) V
+        → AreBefore ch.now.lives known.now (lookups_of V).merchants → Sound V → Fit V ch.now
         → Holds (state S.Store conn.new) (plus V ch.now)) }
-    // on an honest disk, a crash leaves a sound vault that was held and that the changes fit, without them or
-    // with them
+    // on an honest disk, a crash leaves such a vault without the changes or with them
     ensures crash { HasCleanDisk (state S.Store conn.new) → (V : Vault) → Holds (state S.Store conn.old) V
-        → Sound V → Fit V ch.now → LeavesEither (state S.Store conn.new) V (plus V ch.now) }
+        → AreBefore ch.now.lives known.now (lookups_of V).merchants → Sound V → Fit V ch.now
+        → LeavesEither (state S.Store conn.new) V (plus V ch.now) }
 {
     let mut tx = conn.transaction();
-    write_merchant(&mut tx, ch)?;
+    write_merchant(&mut tx, ch, known)?;
     write_caller(&mut tx, ch)?;
     tx.commit().map_err(|_| StoreFault::Store)
 }

@@ -2,6 +2,7 @@
 mod listed;
 mod moved;
 mod over;
+mod remembered;
 mod sent;
 mod sent_again;
 mod sessions;

@@ -4,7 +4,10 @@ use Rattle.vault_verdict.specs.declared.fault.OpenFault.TheVariants.{Memory}
 use Rattle.vault_jobs.proofs.Parts.{unlinked}
 use Rattle.vault_jobs.specs.Streams.{Streams, streams, with_turns}
 use Rattle.vault_listen.proofs.ServedConnections.{none_then}
+use Rattle.vault_sql.proofs.Remembering.{nothing_is}
+use Rattle.vault_sql.specs.Held.{Know}
 use Rattle.vault_sql.specs.Places.{IsPast}
+use Rattle.vault_sql.specs.Remembered.{IsOf}
 use Rattle.vault_store.specs.Applied.{is_broken}
 use Rattle.vault_app.proofs.Files.{ended, refused_file, works}
 use Rattle.vault_app.specs.Files.{EndsOnFile}
@@ -83,12 +86,17 @@ returns g c =
             (sym c.ending_of.ensures)
             (ended world c.args.path.now unread unsent s left c.args.task.now c.do_task-outcome.result.0
             c.do_task-outcome.result.1
-            (works (λ t. t.conn) (λ t. t.failed) (λ t V. IsPast t.place V) (outside_in world)
+            (works (λ t. t.conn) (λ t. t.failed) (λ t V. Know t V) (outside_in world)
             (world.holds c.args.path.now) c.in-Ok.vault
             c.do_task-outcome.new.vault left c.args.task.now c.do_task-outcome.result.0
             c.do_task-outcome.result.1
-            (is_broken c.do_task-outcome.new.vault) unread unsent s c.in-Ok.ensures.found
-            (fresh.1.0, λ V. subst (λ place. IsPast place V) (sym fresh.1.1) tt)
+            (is_broken c.do_task-outcome.new.vault) unread unsent s c.in-Ok.ensures.found (
+              fresh.1.0,
+              λ V. (
+                subst (λ place. IsPast place V) (sym fresh.1.1) tt,
+                subst (λ r. IsOf r V) (sym fresh.1.2) (nothing_is V),
+              ),
+            )
             c.do_task-outcome.ensures.disk_honest
             c.into_connection.result (c.into_connection.ensures ∙ ap (λ t. t.conn) c.into_tables.ensures)
             c.close-left.ensures.clean c.close-left.ensures.after it.2)),

@@ -13,6 +13,7 @@ use Rattle.vault_rows.proofs.Calls.{begun_over, held_after, ours}
 use Rattle.vault_schema.specs.Left.{last_commit}
 use Rattle.vault_schema.specs.Stands.{newest}
 use Rattle.vault_sql.proofs.WrittenPlus.{has_room, written_plus}
+use Rattle.vault_sql.specs.KnownLives.{AreBefore}
 use Rattle.vault_sql.proofs.transaction.write.Given.{Over}
 use Rattle.vault_sql.proofs.transaction.write.Goals as goal
 
@@ -22,11 +23,12 @@ left_is g c = search rules
 
 -- before the commit all changes were written
 ready : (g : Over) (c : goal.After-map_err g) → HasCleanDisk (state g.S.Store c.commit.new.self.0)
-    → (V : Vault) → Holds (state g.S.Store c.args.conn.now) V → Sound V → Fit V c.args.ch.now
+    → (V : Vault) → Holds (state g.S.Store c.args.conn.now) V
+    → AreBefore c.args.ch.now.lives c.args.known.now (lookups_of V).merchants → Sound V → Fit V c.args.ch.now
     → IsWithin newest (state g.S.Store c.write_caller.new.tx.conn.now)
     (state g.S.Store c.args.conn.now).committed
     (lookups_of (plus V c.args.ch.now))
-ready g c late V h sound fit =
+ready g c late V h known sound fit =
     let old = state g.S.Store c.args.conn.now in
     let first : IsWithin newest (state g.S.Store c.transaction-tx.result.conn.now) old.committed
     (lookups_of V) =
@@ -40,21 +42,21 @@ ready g c late V h sound fit =
     (written_plus V c.args.ch.now fit)
     (c.in_ok-write_caller.ensures.done.done third old.committed _
     (c.in_ok-write_merchant.ensures.done.done second old.committed (lookups_of V) first
-    (has_room V sound c.args.ch.now.lives c.args.ch.now.count)) tt)
+    (known, has_room V sound c.args.ch.now.lives c.args.ch.now.count)) tt)
 
 pub returns-clause-done : goal.returns-clause-done
 returns-clause-done g c clean =
     let late = subst (λ h. HasCleanDisk (state g.S.Store h)) (sym (left_is g c)) clean in
     let old = state g.S.Store c.args.conn.now in
     subst (λ h. OnOk c.map_err.result
-    ((V : Vault) → Holds old V → Sound V → Fit V c.args.ch.now
-    → Holds (state g.S.Store h) (plus V c.args.ch.now))) (left_is g c)
+    ((V : Vault) → Holds old V → AreBefore c.args.ch.now.lives c.args.known.now (lookups_of V).merchants
+    → Sound V → Fit V c.args.ch.now → Holds (state g.S.Store h) (plus V c.args.ch.now))) (left_is g c)
     (as_ok _ c.commit.result c.map_err.result c.map_err.ensures.variant
-    (on_ok c.commit.result (c.commit.ensures.ok late) (λ done V h sound fit.
-    held_after (plus V c.args.ch.now) (ready g c late V h sound fit) done.1 c.commit.ensures.survives.limit)))
+    (on_ok c.commit.result (c.commit.ensures.ok late) (λ done V h known sound fit.
+    held_after (plus V c.args.ch.now) (ready g c late V h known sound fit) done.1 c.commit.ensures.survives.limit)))
 
 pub returns-clause-crash : goal.returns-clause-crash
-returns-clause-crash g c clean V h sound fit =
+returns-clause-crash g c clean V h known sound fit =
     let late = subst (λ h. HasCleanDisk (state g.S.Store h)) (sym (left_is g c)) clean in
     let old = state g.S.Store c.args.conn.now in
     let both = steps_then c.in_ok-write_merchant.ensures.done.steps c.in_ok-write_caller.ensures.done.steps in
@@ -64,5 +66,5 @@ returns-clause-crash g c clean V h sound fit =
     elim (c.commit.ensures.survives.crash late db left) [
       | inl before ↦ inl (last_commit old V db h (g.met.S.Store.settled c.args.conn.now.store db h.is_open
           (rw c.transaction-tx.ensures.begun at (both.left middle db before))))
-      | inr wrote ↦ inr (ours (plus V c.args.ch.now) (ready g c late V h sound fit) db wrote)
+      | inr wrote ↦ inr (ours (plus V c.args.ch.now) (ready g c late V h known sound fit) db wrote)
     ])

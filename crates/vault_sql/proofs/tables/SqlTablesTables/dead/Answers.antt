@@ -19,7 +19,7 @@ listed : (g : Over) (c : goal.After-drop-found g) → HasCleanDisk (state g.S.St
     ≡ take (min MOST_TOKENS c.args.limit) (dead_tokens V c.args.m c.args.now))
 listed g c clean V held =
     let was = held.1 (omega (arith, c.in-Ok.ensures.reads.clean, clean)) in
-    let told = c.in-Ok.ensures.told clean V was.0 was.1 in (
+    let told = c.in-Ok.ensures.told clean V was.0 was.1.0 in (
       told.0,
       tokens_read c.in-Ok.found.1.items c.in-Ok-tokens_of.tokens.items _
           (rw (c.deref.ensures.value) at c.in-Ok-tokens_of.ensures) told.1,
@@ -36,9 +36,14 @@ returns-in-Ok-tokens_of-clause-kept g c V held = (
       let seen = listed g c clean V held in
       let first = c.place_of-self.ensures
       ∙ ap (first_place c.args.m c.in-Ok.found.0) c.deref-in-Ok-tokens_of.ensures.value
-      in (
-        ((still_held c.in-Ok.ensures.reads V held).1 clean).0,
-        subst (λ place. IsPast place V) (sym first)
-            (first_past V c.args.m c.in-Ok.found.0 c.args.now _ c.in-Ok-tokens_of.tokens.items seen.0 seen.1),
+      in
+      let still = (still_held c.in-Ok.ensures.reads V held).1 clean in (
+        still.0,
+        (
+          subst (λ place. IsPast place V) (sym first)
+              (first_past V c.args.m c.in-Ok.found.0 c.args.now _ c.in-Ok-tokens_of.tokens.items seen.0
+              seen.1),
+          still.1.1,
+        ),
       ),
 )
