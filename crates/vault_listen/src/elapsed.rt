@@ -8,8 +8,8 @@ use std::time::{Clock, Duration};
 /// The time of a connection, and of the message or the answer that is under way on it. Its reader and its
 /// writer share it.
 #[derive(Drop)]
-pub struct Elapsed<'c, C> {
-    clock: &'c C,
+pub struct Elapsed<C> {
+    clock: C,
     limits: Limits,
     /// When the connection ends, by the monotonic clock.
     end: Cell<Duration>,
@@ -19,9 +19,9 @@ pub struct Elapsed<'c, C> {
     rest: Cell<usize>,
 }
 
-impl<'c, C: Clock> Elapsed<'c, C> {
+impl<C: Clock + Drop> Elapsed<C> {
     /// The time of a connection that is accepted now.
-    pub fn new(clock: &'c C, limits: Limits) -> io::Result<Elapsed<'c, C>> {
+    pub fn new(clock: C, limits: Limits) -> io::Result<Elapsed<C>> {
         let now = clock.monotonic()?;
         Ok(Elapsed {
             clock,

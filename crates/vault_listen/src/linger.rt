@@ -49,8 +49,8 @@ fn has_last_turn(ended: Result<Served, ServeFault>, gave_way: bool) -> bool
 }
 
 /// Ends the connection of a peer whose service ended so, behind its last turn where it has one.
-pub fn end_peer<S: Stream + Drop, C: Clock>(
-    reader: Watched<PeerReader<'_, S, C>>,
+pub fn end_peer<S: Stream + Drop, C: Clock + Drop>(
+    reader: Watched<PeerReader<S, C>>,
     ended: Result<Served, ServeFault>,
 ) {
     let mut reader = reader.into_inner();
@@ -64,7 +64,7 @@ pub fn end_peer<S: Stream + Drop, C: Clock>(
 ///
 /// A connection that is closed while bytes of its peer are unread is reset, and what was under way to the
 /// peer may be lost.
-fn linger<S: Stream, C: Clock>(reader: &mut PeerReader<'_, S, C>)
+fn linger<S: Stream, C: Clock + Drop>(reader: &mut PeerReader<S, C>)
     // what it takes of the stream, where that is known, is at most 65536 bytes
     ensures bounded { (bytes : List ℕ) × (length bytes ≤ 65536)
         × Consumes (S.remaining reader.old.stream) (S.remaining reader.new.stream) bytes }

@@ -18,16 +18,16 @@ use vault_wire::place::Placed;
 /// Between two messages, and before the first, a read fails too once the peer was quiet for 50 milliseconds
 /// and another one waits: then it gave way.
 #[derive(Drop)]
-pub struct PeerReader<'c, S, C> {
+pub struct PeerReader<S, C> {
     stream: S,
-    elapsed: Rc<Elapsed<'c, C>>,
+    elapsed: Rc<Elapsed<C>>,
     is_between: bool,
     gave_way: bool,
 }
 
-impl<'c, S: Stream, C: Clock> PeerReader<'c, S, C> {
+impl<S: Stream, C: Clock + Drop> PeerReader<S, C> {
     /// The reader of a peer that has sent nothing yet.
-    pub fn new(stream: S, elapsed: Rc<Elapsed<'c, C>>) -> PeerReader<'c, S, C>
+    pub fn new(stream: S, elapsed: Rc<Elapsed<C>>) -> PeerReader<S, C>
         ensures stream { result.stream ≡ stream }
         ensures place { result.is_between ≡ true }
         ensures way { result.gave_way ≡ false }
@@ -59,7 +59,7 @@ impl<'c, S: Stream, C: Clock> PeerReader<'c, S, C> {
     }
 }
 
-impl<'c, S: Stream, C: Clock> Read for PeerReader<'c, S, C> {
+impl<S: Stream, C: Clock + Drop> Read for PeerReader<S, C> {
     ghost remaining = { λ reader. S.remaining reader.stream };
 
     fn read(&mut self, buf: &mut [u8]) -> io::Result<usize>
@@ -89,7 +89,7 @@ impl<'c, S: Stream, C: Clock> Read for PeerReader<'c, S, C> {
     }
 }
 
-impl<'c, S: Stream, C: Clock> Placed for PeerReader<'c, S, C> {
+impl<S: Stream, C: Clock + Drop> Placed for PeerReader<S, C> {
     fn stand(&mut self, is_between: bool)
         // what the stream has left to give stays
         ensures bytes { S.remaining self.new.stream ≡ S.remaining self.old.stream }
@@ -105,21 +105,21 @@ impl<'c, S: Stream, C: Clock> Placed for PeerReader<'c, S, C> {
 /// Writes what a peer takes. A write fails once the time of the answer is over; a write that is cut short is
 /// followed by one of the rest.
 #[derive(Drop)]
-pub struct PeerWriter<'c, S, C> {
+pub struct PeerWriter<S, C> {
     stream: S,
-    elapsed: Rc<Elapsed<'c, C>>,
+    elapsed: Rc<Elapsed<C>>,
 }
 
-impl<'c, S: Stream, C: Clock> PeerWriter<'c, S, C> {
+impl<S: Stream, C: Clock + Drop> PeerWriter<S, C> {
     /// The writer of a peer.
-    pub fn new(stream: S, elapsed: Rc<Elapsed<'c, C>>) -> PeerWriter<'c, S, C>
+    pub fn new(stream: S, elapsed: Rc<Elapsed<C>>) -> PeerWriter<S, C>
         ensures { result.stream ≡ stream }
     {
         PeerWriter { stream, elapsed }
     }
 }
 
-impl<'c, S: Stream, C: Clock> Write for PeerWriter<'c, S, C> {
+impl<S: Stream, C: Clock + Drop> Write for PeerWriter<S, C> {
     ghost contents = { λ writer. S.contents writer.stream };
 
     fn write(&mut self, buf: &[u8]) -> io::Result<usize> {

@@ -32,10 +32,10 @@ fn loses_one(kind: ErrorKind) -> bool {
 }
 
 /// The reader of a TCP connection's peer.
-pub type TcpReader<'c, C> = PeerReader<'c, PeerStream, C>;
+pub type TcpReader<'c, C> = PeerReader<PeerStream, &'c C>;
 
 /// Its writer.
-pub type TcpWriter<'c, C> = PeerWriter<'c, PeerStream, C>;
+pub type TcpWriter<'c, C> = PeerWriter<PeerStream, &'c C>;
 
 /// A TCP listener, and how many connections came to it.
 ///
