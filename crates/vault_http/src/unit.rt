@@ -99,11 +99,6 @@ impl<'a> Unit for AskedMessage<'a> {
     }
 
     fn refused(&self, alloc: Global, refusal: Refusal) -> Result<Vec<u8>, AllocError> {
-        told(
-            alloc,
-            refusal,
-            self.methods(refusal),
-            self.message.closes(),
-        )
+        told(alloc, refusal, self.methods(refusal), self.message.closes())
     }
 }

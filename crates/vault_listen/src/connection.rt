@@ -61,13 +61,5 @@ pub fn serve_connection<K: Timekeeper, G: Rng, R: Placed, W: Write, T: Tables>(
     ensures trusted { Trusts T.is_honest T.may_fail vault.old vault.new result }
 {
     let mut source = LiveSource::ending(alloc, time.questions(), generator, MESSAGES, end);
-    serve_by(
-        alloc,
-        routes,
-        &Telling,
-        reader,
-        writer,
-        vault,
-        &mut source,
-    )
+    serve_by(alloc, routes, &Telling, reader, writer, vault, &mut source)
 }

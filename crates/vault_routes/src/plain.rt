@@ -19,7 +19,9 @@ const BEHIND: &[u8] = b"\"}";
 fn are_plain(bytes: &[u8]) -> bool
     ensures { result ≡ list_all is_plain_byte bytes.now }
 {
-    bytes.iter().all(|b| b.is_ascii_digit() || b.is_ascii_lowercase())
+    bytes
+        .iter()
+        .all(|b| b.is_ascii_digit() || b.is_ascii_lowercase())
 }
 
 /// The two texts of bytes that have no space, `number` first, whatever these are.

@@ -1,7 +1,7 @@
 //! Runs of the program one after the other over files in memory, with a stop after each.
 use vault_app::desk::HostDesk;
-use vault_listen::network::Loopback;
 use vault_listen::limits::Limits;
+use vault_listen::network::Loopback;
 use vault_listen::time::ClockTime;
 use vault_promise::kept::KeptFiles;
 use vault_promise::twice::twice;
