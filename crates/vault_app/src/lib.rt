@@ -3,6 +3,7 @@
 
 mod asker;
 mod commands;
+mod conclusion;
 pub mod desk;
 pub mod ending;
 mod line;

@@ -21,12 +21,12 @@ ghost use Rattle.vault_app.specs.declared.placeholder.Placeholder.{Placeholder};
 use crate::commands::check::tell_sizes;
 use crate::commands::migrate::{has_no_vault, tell_moved};
 use crate::commands::trial;
+use crate::conclusion::Conclusion;
 use crate::ending::Ending;
 use crate::on_file::do_on_file;
 use crate::plan::{Plan, plan_of};
 use crate::report::report;
 use sqlite::FileStore;
-use std::alloc::Global;
 use std::convert::AsStr;
 use std::io::{Error, ErrorKind, Read, Write};
 use vault_file::check::check_file;
@@ -44,14 +44,14 @@ use vault_wire::watched::Watched;
 use vault_words::job::job;
 use vault_words::jobs::JobFault;
 
-/// What is to be done for the words, or how the program ends without it.
+/// What is to be done for the words, or how the program ends without it. Bad words are explained.
 fn planned<'a, P: Paths, K: Timekeeper, A: AsStr, W: Write>(
     rt: &HostRuntime,
     paths: &P,
     time: &K,
     words: &'a [A],
     output: &mut Watched<W>,
-) -> Result<Plan<'a>, Ending>
+) -> Result<Plan<'a>, Conclusion>
     // with Ok, nothing went out, and it is a plan of a job that the words ask for
     ensures planned { let world : World = world_at P.Paths (K.tells time.now) no_looks paths.now in
         IfOk result (λ plan. (output.new ≡ output.old)
@@ -61,18 +61,29 @@ fn planned<'a, P: Paths, K: Timekeeper, A: AsStr, W: Write>(
     // with Err, the words' job ends without a plan, the words ask for none, or memory was refused; only help
     // is said
     ensures planless { let world : World = world_at P.Paths (K.tells time.now) no_looks paths.now in
-        IfErr result (λ ending. EndsPlanless world (map A.text words.now) ending (output.new ≡ output.old)) }
+        IfErr result (λ it. EndsPlanless world (map A.text words.now) it.ending (output.new ≡ output.old)) }
+    // with Err, what is said of the words shows fewer than ten digits, too few for a card number
+    ensures few { IfErr result (λ it. HasFewDigits (string_bytes it.why)) }
 {
-    match job(rt.alloc(), words) {
-        Ok(asked) => plan_of(rt, paths, time, &asked),
+    let ending = match job(rt.alloc(), words) {
+        Ok(asked) => match plan_of(rt, paths, time, &asked) {
+            Ok(plan) => return Ok(plan),
+            Err(ending) => ending,
+        },
         Err(JobFault::Help(text)) => {
             tell(output, &[text.as_str()]);
-            Err(Ending::Done)
+            Ending::Done
         }
-        Err(JobFault::Version) => Err(Ending::Version),
-        Err(JobFault::BadWords(_)) => Err(Ending::BadWords),
-        Err(JobFault::Memory) => Err(Ending::Stopped(Stop::Vault(Fault::Memory))),
-    }
+        Err(JobFault::Version) => Ending::Version,
+        Err(JobFault::BadWords(why)) => {
+            return Err(Conclusion {
+                ending: Ending::BadWords,
+                why,
+            });
+        }
+        Err(JobFault::Memory) => Ending::Stopped(Stop::Vault(Fault::Memory)),
+    };
+    Err(Conclusion::of(rt.alloc(), ending))
 }
 
 /// Carries out a plan over the files at its path.
@@ -128,32 +139,23 @@ fn ended<P: Paths, K: Timekeeper, N: Network, D: Desk, A: AsStr, R: Read, W: Wri
     words: &[A],
     input: &mut Watched<R>,
     output: &mut Watched<W>,
-) -> (Ending, Option<FileStore<P::Disk>>)
+) -> (Conclusion, Option<FileStore<P::Disk>>)
     // by how it ends: what the words' job did with its files, which are left, and what was read and sent
     ensures does { let world : World = world_at P.Paths (K.tells time.now) (D.says desk.now) paths in
         let s : Streams = streams R.remaining input.old input.new W.contents output.old output.new in
         (turns : List Turn)
         × ((log : List Event) → N.tells network.old log → N.tells network.new (log ++ events_in turns))
-        × Does world result.1 (map A.text words.now) result.0
+        × Does world result.1 (map A.text words.now) result.0.ending
         (input.new ≡ input.old) (output.new ≡ output.old) (with_turns s turns) }
+    // what is said of the words shows fewer than ten digits, too few for a card number
+    ensures few { HasFewDigits (string_bytes result.0.why) }
 {
     match planned(rt, &paths, time, words, output) {
-        Ok(plan) => carry_out(rt, paths, time, network, desk, plan, input, output),
-        Err(ending) => (ending, None),
-    }
-}
-
-/// Why words are bad, where a run ends so; nothing, where it ends otherwise.
-fn why_bad<A: AsStr>(alloc: Global, words: &[A], ending: &Ending) -> String
-    // it shows fewer than ten digits, too few for a card number
-    ensures few { HasFewDigits (string_bytes result) }
-{
-    match ending {
-        Ending::BadWords => match job(alloc, words) {
-            Err(JobFault::BadWords(why)) => why,
-            _ => String::new(alloc),
-        },
-        _ => String::new(alloc),
+        Ok(plan) => {
+            let (ending, left) = carry_out(rt, paths, time, network, desk, plan, input, output);
+            (Conclusion::of(rt.alloc(), ending), left)
+        }
+        Err(conclusion) => (conclusion, None),
     }
 }
 
@@ -206,9 +208,8 @@ pub fn run<P: Paths, K: Timekeeper, N: Network, D: Desk, A: AsStr, R: Read, W: W
     // with status 2 or 3, nothing went out on the output
     ensures unsent { (result.0 ≡ 2) ⊎ (result.0 ≡ 3) → output.new ≡ output.old }
 {
-    let (ending, left) = ended(rt, paths, time, network, desk, words, input, output);
-    let why = why_bad(rt.alloc(), words, &ending);
-    (report(&ending, why.as_str(), output, errors), left)
+    let (it, left) = ended(rt, paths, time, network, desk, words, input, output);
+    (report(&it.ending, it.why.as_str(), output, errors), left)
 }
 
 /// Says why there are no words: memory was refused, or one of them isn't UTF-8.

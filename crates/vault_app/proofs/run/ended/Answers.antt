@@ -40,9 +40,9 @@ returns-in-Err g c = record {
     [],
     none_then (g.N.Network.tells c.args.network.now),
     elim (looked_planless g.P.Paths (g.K.Timekeeper.tells c.args.time.now) (g.D.Desk.says c.args.desk.now)
-        c.args.paths _ c.in-Err.ending _ c.in-Err.ensures.planless) [
+        c.args.paths _ c.in-Err.conclusion.ending _ c.in-Err.ensures.planless) [
           | inl h ↦ inl (h.0.0, h.0.1, inr (h.0.2, refl, refl, h.1))
-          | inr u ↦ inr (refl, unasked _ c.in-Err.ending _ _ refl u)
+          | inr u ↦ inr (refl, unasked _ c.in-Err.conclusion.ending _ _ refl u)
         ],
   );
 }

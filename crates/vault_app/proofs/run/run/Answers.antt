@@ -8,16 +8,16 @@ use Rattle.vault_app.proofs.run.run.Goals as goal
 
 pub returns-clause-does : goal.returns-clause-does
 returns-clause-does g c = (
-  c.ended-ending.new.output,
-  c.ended-ending.ensures.does.0,
-  c.ended-ending.ensures.does.1,
+  c.ended-it.new.output,
+  c.ended-it.ensures.does.0,
+  c.ended-it.ensures.does.1,
   record {
-    ending = c.ended-ending.result.0;
+    ending = c.ended-it.result.0.ending;
     exits = c.report.ensures.status;
     why = c.as_str.result.now;
-    few = subst HasFewDigits (sym c.as_str.ensures.value) c.why_bad-why.ensures.few;
+    few = subst HasFewDigits (sym c.as_str.ensures.value) c.ended-it.ensures.few;
     says = c.report.ensures.said;
-    does = c.ended-ending.ensures.does.2;
+    does = c.ended-it.ensures.does.2;
   },
 )
 
@@ -29,23 +29,23 @@ status_at ending status is (inr three) = inr (sym is ∙ three)
 
 pub returns-clause-unread : goal.returns-clause-unread
 returns-clause-unread g c = λ at.
-    let end = status_at c.ended-ending.result.0 _ c.report.ensures.status at in
-    (calm_at _ _ _ _ _ _ c.ended-ending.result.0 end c.ended-ending.ensures.does.2).0
+    let end = status_at c.ended-it.result.0.ending _ c.report.ensures.status at in
+    (calm_at _ _ _ _ _ _ c.ended-it.result.0.ending end c.ended-it.ensures.does.2).0
 
 pub returns-clause-unsent : goal.returns-clause-unsent
 returns-clause-unsent g c = λ at.
-    let end = status_at c.ended-ending.result.0 _ c.report.ensures.status at in
-    said_at _ c.ended-ending.result.0 _ _ _ _ end c.report.ensures.said
-    ∙ (calm_at _ _ _ _ _ _ c.ended-ending.result.0 end c.ended-ending.ensures.does.2).1
+    let end = status_at c.ended-it.result.0.ending _ c.report.ensures.status at in
+    said_at _ c.ended-it.result.0.ending _ _ _ _ end c.report.ensures.said
+    ∙ (calm_at _ _ _ _ _ _ c.ended-it.result.0.ending end c.ended-it.ensures.does.2).1
 
 pub returns-clause-unread_refused : goal.returns-clause-unread_refused
-returns-clause-unread_refused g c = λ one. refused_at _ _ _ _ _ _ c.ended-ending.result.0
-    (sym c.report.ensures.status ∙ one) c.ended-ending.ensures.does.2
+returns-clause-unread_refused g c = λ one. refused_at _ _ _ _ _ _ c.ended-it.result.0.ending
+    (sym c.report.ensures.status ∙ one) c.ended-it.ensures.does.2
 
 pub returns-clause-silent_done : goal.returns-clause-silent_done
-returns-clause-silent_done g c = λ zero. noted_at _ _ _ _ _ _ c.ended-ending.result.0 _ _ _ _ _
-    (sym c.report.ensures.status ∙ zero) c.ended-ending.ensures.does.2 c.report.ensures.said
+returns-clause-silent_done g c = λ zero. noted_at _ _ _ _ _ _ c.ended-it.result.0.ending _ _ _ _ _
+    (sym c.report.ensures.status ∙ zero) c.ended-it.ensures.does.2 c.report.ensures.said
 
 pub returns-clause-silent : goal.returns-clause-silent
-returns-clause-silent g c = λ one. misnamed_at _ _ _ _ _ _ c.ended-ending.result.0 _ _ _ _ _
-    (sym c.report.ensures.status ∙ one) c.ended-ending.ensures.does.2 c.report.ensures.said
+returns-clause-silent g c = λ one. misnamed_at _ _ _ _ _ _ c.ended-it.result.0.ending _ _ _ _ _
+    (sym c.report.ensures.status ∙ one) c.ended-it.ensures.does.2 c.report.ensures.said
