@@ -2,7 +2,7 @@
 use Rattle.std.proofs.Common.{◌≡◌, ℕ, ◌==◌, false, true≢false, refl, sym, ap, ◌∙◌, subst}
 use Rattle.std.specs.Prelude.{◌↔◌, option_map, unwrap_or}
 use Rattle.std.proofs.lemmas.Bool.{eq-eqb}
-use Rattle.vault_refusal.specs.Refusal.{number_of, numbered, other_status, refusals, status_of}
+use Rattle.vault_refusal.specs.Refusal.{number_of, other_status, refusals, status_of}
 use Rattle.vault_refusal.specs.declared.refusal.Refusal.{Refusal}
 use Rattle.vault_refusal.specs.declared.refusal.Refusal.TheVariants.{BadNumber, BadMethod}
 use Rattle.vault_refusal.proofs.Numbers.{numbered_itself}

@@ -20,6 +20,7 @@ pub fn status_by(refusal: Refusal) -> u16
 }
 
 /// The status of a refusal, by its number. A number that none has is answered by 507.
+#[tactic(auto, using(crate::proofs::Statuses::status_is, crate::proofs::Statuses::with_57))]
 pub fn status_for(refusal: u8) -> u16
     // it is the status of the refusal of this number, or that of a number that none has
     ensures code { result ≡ code_for refusal }

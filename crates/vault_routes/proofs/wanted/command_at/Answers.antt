@@ -1,6 +1,6 @@
 use Rattle.std.proofs.Common.{◌≡◌, Ok, sym, inl, inr, refl, subst, ap, ◌∙◌}
 use Rattle.vault_pan.specs.CardText.{IsToken}
-use Rattle.vault_routes.specs.Route.{route_of, target_of}
+use Rattle.vault_routes.specs.Route.{target_of}
 use Rattle.vault_routes.specs.Table.{action_at}
 use Rattle.vault_routes.specs.Wanted.{Wants, WantsAction, command_for, command_on}
 use Rattle.vault_refusal.specs.declared.refusal.Refusal.TheVariants as refusal
