@@ -1,6 +1,7 @@
 -- What each kind of statement makes, and each kind of query shows, of a table whose key is its rowid.
 use Rattle.std.proofs.Common.{◌≡◌, ◌⊎◌, inl, inr, ℕ, ℤ, List, [], ◌∷◌, map, drop, length, ◌/◌, Bool, true}
 use Rattle.std.proofs.Common.{Option, Some, None, refl, sym, ap, subst, ◌∙◌, int_cmp, slice_get}
+use Rattle.std.proofs.Common.{unwrap_or}
 use Rattle.std.proofs.lemmas.List.Sorted.{IsPermutation-sym}
 use Rattle.std.specs.List.{list_all}
 use Rattle.std.specs.Ordering.{eq_by_cmp}
@@ -11,6 +12,7 @@ use Rattle.sqlite.specs.Order.{Row, column}
 use Rattle.sqlite.specs.Program.{overlay}
 use Rattle.sqlite.specs.Query.{IsAnswer}
 use Rattle.sqlite.specs.Rowids.TheVariants.{Chosen}
+use Rattle.sqlite.specs.Rows.{last_id}
 use Rattle.sqlite.specs.Schema.{Schema}
 use Rattle.sqlite.specs.State.{State, Shown}
 use Rattle.sqlite.specs.Term.{Term, col, holds}
@@ -80,11 +82,11 @@ module _ {s : Schema} (fine : is_plain s ≡ true) {claims : List Claim} {base :
   abbrev pub new_id : ℤ
   new_id = next_rowid (db t.table.tree)
 
-  -- INSERT with NULL for the id: the new id was free
+  -- INSERT with NULL for the id: the new id was free, and is now the last rowid
   pub insert_id : (x : X) (width : ℕ) (terms : List Term)
       → IsWrite s text (insert t.place width terms)
       → value_rows params width (length terms / width) terms ≡ (Null ∷ value x) ∷ []
-      → (held new_id ≡ None) × IsPutId new_id (Some x)
+      → (held new_id ≡ None) × IsPutId new_id (Some x) × (new.last_rowid ≡ new_id)
   insert_id x width terms it one =
       let did = insert_wrote s fine t.table text params old new run.count t.place t.here
       run.within.stands.schema run.ran.0 _ it in
@@ -95,6 +97,7 @@ module _ {s : Schema} (fine : is_plain s ≡ true) {claims : List Claim} {base :
       let now = subst (λ l. Wrote s t.table.tree [] l db new.now) news did.2 in (
         free_id were_rows new_id (value x) now.fresh,
         put_ids new_id (Some x) did.3 [] _ now (inserted_id were_rows new_id x now.fresh),
+        did.4 ∙ ap (λ l. unwrap_or (last_id l) old.last_rowid) news,
       )
 
   module _ (p : ℕ) (n : ℤ) (stands : column params p ≡ Int n) where

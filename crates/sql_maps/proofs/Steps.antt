@@ -15,7 +15,7 @@ use Rattle.sqlite.specs.Program.{overlay}
 use Rattle.sqlite.specs.Query.{Query, IsAnswer}
 use Rattle.sqlite.specs.Rowids.TheVariants.{Chosen, Given}
 use Rattle.sqlite.specs.Rows.{Written, Task, Tries, TriesEach, Upserts, Clears, Puts, nothing, count_of}
-use Rattle.sqlite.specs.Rows.{shown}
+use Rattle.sqlite.specs.Rows.{last_id, shown}
 use Rattle.sqlite.specs.Schema.{Schema}
 use Rattle.sqlite.specs.Source.TheVariants.{Values}
 use Rattle.sqlite.specs.State.{State, Runs, mode_of, Executes}
@@ -114,9 +114,9 @@ module _ (s : Schema) (plain : is_plain s ≡ true) (d : Descriptor) where
     concluded : (command : Command) → IsWrite s text command
         → (Runs old new None command (statement_of text (understood s text)) params count
         → (tally : Tally) × IsOnRows command tally old.now × IsDatabase new.now
-        × (count ≡ unwrap_or tally.rows 0))
+        × (count ≡ unwrap_or tally.rows 0) × (new.last_rowid ≡ unwrap_or tally.last old.last_rowid))
         → (w : Written) × WritesRows task db command (Ok w) × (new.now ≡ under w.trees) × IsDatabase new.now
-        × (count ≡ length w.rows)
+        × (count ≡ length w.rows) × (new.last_rowid ≡ unwrap_or w.last old.last_rowid)
     concluded command it on =
         let w = on (runs_as text params old new s has command it.is it.plain count ran) in
         let done =
@@ -129,17 +129,24 @@ module _ (s : Schema) (plain : is_plain s ≡ true) (d : Descriptor) where
           ap (λ (p : Tally × Database). p.1) told,
           w.2,
           w.3 ∙ ap (λ (p : Tally × Database). unwrap_or p.0.rows 0) told,
+          w.4 ∙ ap (λ (p : Tally × Database). unwrap_or p.0.last old.last_rowid) told,
         )
 
     abbrev trees_of : Written → Database
     trees_of w = under w.trees
 
+    -- the rows of a source as they are inserted, with their rowids
+    abbrev inserted : List Row → List Row
+    inserted rows = numbered Chosen (db d.tree) (map (cast_row (table_of d)) rows)
+
+    -- an insert: the last rowid is now that of the last new row, if there is one
     pub insert_wrote : (from : Source) → IsWrite s text (Insert at from)
         → (rows : List Row) × IsSource (under db) params from rows
-        × Wrote s d.tree [] (numbered Chosen (db d.tree) (map (cast_row (table_of d)) rows)) db new.now
-        × IsDatabase new.now
+        × Wrote s d.tree [] (inserted rows) db new.now × IsDatabase new.now
+        × (new.last_rowid ≡ unwrap_or (last_id (inserted rows)) old.last_rowid)
     insert_wrote from it =
-        let done = concluded (Insert at from) it (λ w. (w.tally, w.changed, w.sound, w.counted)) in
+        let done = concluded (Insert at from) it
+        (λ w. (w.tally, w.changed, w.sound, w.counted, w.last_rowid)) in
         let rows = went done.1 in
         let edit = went (went rows.2).2 in
         let end = went edit.2 in (
@@ -148,6 +155,7 @@ module _ (s : Schema) (plain : is_plain s ≡ true) (d : Descriptor) where
           edited (mode_of old).keys db edit.0 new.now [] Chosen 0 rows.0
               (done.2 ∙ ap trees_of (same_value end.2) ∙ ap under (same_value end.1)) edit.1,
           done.3,
+          done.5 ∙ ap (λ (w : Written). unwrap_or w.last old.last_rowid) (same_value end.2),
         )
 
     -- a delete of the rows that pass
@@ -156,7 +164,7 @@ module _ (s : Schema) (plain : is_plain s ≡ true) (d : Descriptor) where
         × Wrote s d.tree (ids_of rows) [] db new.now × IsDatabase new.now
     delete_wrote body it =
         let done = concluded (Delete at (record { lets = []; body = body })) it
-        (λ w. (w.tally, w.changed, w.sound, w.counted)) in
+        (λ w. (w.tally, w.changed, w.sound, w.counted, w.last_rowid)) in
         let rows = went done.1 in
         let edit = went rows.2 in (
           rows.0,
@@ -173,7 +181,7 @@ module _ (s : Schema) (plain : is_plain s ≡ true) (d : Descriptor) where
         × IsDatabase new.now × (count ≡ length rows)
     update_wrote body it =
         let done = concluded (Update at (record { lets = []; body = body })) it
-        (λ w. (w.tally, w.changed, w.sound, w.counted)) in
+        (λ w. (w.tally, w.changed, w.sound, w.counted, w.last_rowid)) in
         let rows = went done.1 in
         let edit = went rows.2 in
         let news = map (λ r. cast_row (table_of d) (drop 1 r)) rows.0 in
@@ -255,7 +263,7 @@ module _ (s : Schema) (plain : is_plain s ≡ true) (d : Descriptor) where
     upsert_wrote target update terms width source it one =
         let clauses = clause_of target update ∷ [] in
         let done = concluded (InsertOr at Abort (Values terms width) clauses) it
-        (λ w. (w.tally, w.changed, w.sound, w.counted)) in
+        (λ w. (w.tally, w.changed, w.sound, w.counted, w.last_rowid)) in
         let rows = went done.1 in
         let counter = went rows.2 in
         let tries = went counter.2 in

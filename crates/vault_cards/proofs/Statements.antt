@@ -1,5 +1,5 @@
 -- What each statement makes of the tables of a version that has cards, inside a transaction.
-use Rattle.std.proofs.Common.{◌≡◌, ℤ, ℕ, pos, List, [], ◌∷◌, ◌++◌, Some, None, refl, int_cmp}
+use Rattle.std.proofs.Common.{◌≡◌, ℤ, ℕ, pos, List, [], ◌∷◌, ◌++◌, Some, None, refl, int_cmp, subst, sym}
 use Rattle.sqlite.specs.Effect.{Database}
 use Rattle.sqlite.specs.Order.{Row}
 use Rattle.sqlite.specs.State.{State}
@@ -23,10 +23,10 @@ use Rattle.vault_cards.specs.Cards.{card_made}
 use Rattle.vault_cards.proofs.Places.{HasCards, card_table, cards_where, pointing_table, ran_second}
 use Rattle.vault_cards.proofs.Places.{tables_of_second}
 
--- a card came that wasn't there
-abbrev pub HasAdded : Version → Tables → Database → State → Bytes → Bytes → Type 0
-HasAdded v t base new m number =
-    (id : ℤ) × (t.cards id ≡ None)
+-- the card with this id came, which wasn't there
+abbrev pub HasAdded : Version → Tables → Database → State → Bytes → Bytes → ℤ → Type 0
+HasAdded v t base new m number id =
+    (t.cards id ≡ None)
     × HasTables v new base (record t { cards = put int_cmp t.cards id (Some (card_made m number)) })
 
 module _ (t : Tables) {base : Database} {old new : State} (v : Version) where
@@ -35,14 +35,15 @@ module _ (t : Tables) {base : Database} {old new : State} (v : Version) where
       → HasCards v
   had run = cards_where v t old.now.trees run.within.stands.rows
 
+  -- the id of the new card is the last rowid
   pub card_added : (m number : Bytes)
       → Ran (schema_of v) (claims_of v t) base old new ADD_CARD.now (Text m ∷ Text number ∷ [])
-      → HasAdded v t base new m number
+      → HasAdded v t base new m number new.last_rowid
   card_added m number run =
       let has = had run in
       let it = insert_id (plain_second v has) (ran_second v has t run) (card_table v) t.cards (λ are. are)
       (card_made m number) 5 _ (add_card_is (behind_two v) (indexes_behind_two v)) refl in
-      (_, it.0, tables_of_second v has _ it.1)
+      subst (HasAdded v t base new m number) (sym it.2) (it.0, tables_of_second v has _ it.1)
 
   pub card_used : (id : ℤ) (c : Card) → t.cards id ≡ Some c → (uses : ℕ)
       → Ran (schema_of v) (claims_of v t) base old new SET_USES.now (Int id ∷ Int (pos uses) ∷ [])

@@ -55,12 +55,13 @@ fn drop_card<S: Alter>(tx: &mut Transaction<'_, S>, id: i64) -> Result<(), Error
     step(tx, DROP_CARD, params![id])
 }
 
-/// Makes a card that is used once.
-fn put_card<S: Alter>(tx: &mut Transaction<'_, S>, m: &str, number: &str) -> Result<(), Error>
+/// Makes a card that is used once, and answers its id.
+fn put_card<S: Alter>(tx: &mut Transaction<'_, S>, m: &str, number: &str) -> Result<i64, Error>
     ensures { Inside S.Store tx.old tx.new (TurnsInEach result
-        (λ t. Unit {0}) (λ it t new. IsAdded t new m.now number.now)) }
+        (λ t. Unit {0}) (λ id t new. IsAdded t new id m.now number.now)) }
 {
-    step(tx, ADD_CARD, params![m, number])
+    step(tx, ADD_CARD, params![m, number])?;
+    Ok(tx.last_insert_rowid())
 }
 
 /// Uses a card once more, whose row this is.
@@ -91,12 +92,7 @@ fn make_card<S: Alter>(
         (λ id t new. (t.cards id ≡ None)
         × (new ≡ record t { cards = put int_cmp t.cards id (Some (card_made m.now number.now)) }))) }
 {
-    put_card(tx, m, number)?;
-    let rows = card_rows_in(tx, m, number)?;
-    match rows.first() {
-        Some(row) => Ok(row.get(0)?),
-        None => Err(StoreFault::Store),
-    }
+    Ok(put_card(tx, m, number)?)
 }
 
 /// Uses the card of a merchant's number once more, and makes it where it isn't there.
