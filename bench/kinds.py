@@ -32,6 +32,7 @@ BASE = 0x108000
 HEADER = "request,number,use\n"
 REPEATED = re.compile(r"^\s*([0-9a-f]+):\s.*\brep (?:stos|movs)", re.MULTILINE)
 COST = re.compile(r"^0x([0-9a-f]+) \S+ (\d+)$")
+OBJECT = re.compile(r"^c?ob=\((\d+)\) (.+)$", re.MULTILINE)
 TOTAL = re.compile(r"^(?:summary|totals): (\d+)", re.MULTILINE)
 
 
@@ -41,14 +42,35 @@ def messages(many, use, request, card):
     return [one.encode() for one in asked]
 
 
+class Repeats:
+    """Where the instructions stand that repeat by the byte, in the program and in what it is linked with."""
+
+    def __init__(self, program):
+        self.program, self.known = program, {}
+
+    def of(self, path):
+        """Those of an object, as callgrind names it and their places; the program itself has no name there."""
+        if path not in self.known:
+            at, base = (self.program, BASE) if path == "???" else (path, 0)
+            words = ["objdump", "-d", at]
+            lines = subprocess.run(words, stdout=subprocess.PIPE, check=True).stdout.decode()
+            self.known[path] = {int(it, 16) + base for it in REPEATED.findall(lines)}
+        return self.known[path]
+
+
 class Counted:
     """What a run took: its instructions, and those of them that repeat by the byte."""
 
-    def __init__(self, path, repeated):
+    def __init__(self, path, repeats):
         text = path.read_text()
         self.every = int(TOTAL.search(text)[1])
-        costs = (COST.match(line) for line in text.splitlines())
-        self.repeated = sum(int(it[2]) for it in costs if it and int(it[1], 16) in repeated)
+        objects = dict(OBJECT.findall(text))
+        self.repeated = 0
+        for line in text.splitlines():
+            if line.startswith("ob="):
+                places = repeats.of(objects[line[4:].split(")")[0]])
+            elif it := COST.match(line):
+                self.repeated += int(it[2]) if int(it[1], 16) in places else 0
 
     def beyond(self, other, many):
         """What a message took more than another run's."""
@@ -65,8 +87,7 @@ class Counter:
         told(program, "grant", *moment, self.file, "till-1", "shop1", "tokenize")
         rows = (f"{at},{cards.number_of(at)},single\n" for at in range(1, before + 1))
         self.run(("batch", *moment, self.file, "till-1", "shop1"), (HEADER + "".join(rows)).encode())
-        lines = subprocess.run(["objdump", "-d", program], stdout=subprocess.PIPE, check=True).stdout.decode()
-        self.repeated = {int(it, 16) + BASE for it in REPEATED.findall(lines)}
+        self.repeats = Repeats(program)
 
     def run(self, words, given):
         subprocess.run([self.program, *words], input=given, stdout=subprocess.DEVNULL, check=True)
@@ -95,7 +116,7 @@ class Counter:
         process = self.watched("pipe", "--now", NOW, self.copy(), stdin=subprocess.PIPE)
         answers, _ = process.communicate(b"".join(asked), timeout=SECONDS)
         assert process.returncode == 0 and answers.count(b" 200 OK") == len(asked)
-        return Counted(self.folder / "counts", self.repeated)
+        return Counted(self.folder / "counts", self.repeats)
 
     def serve(self, asked):
         """The same by a service with one connection that is kept, a message once its answer is there."""
@@ -108,7 +129,7 @@ class Counter:
                 assert b" 200 OK" in peer.recv(4096)
         process.communicate(timeout=SECONDS)
         assert process.returncode == 0
-        return Counted(self.folder / "counts", self.repeated)
+        return Counted(self.folder / "counts", self.repeats)
 
 
 def kinds(counter, many):
