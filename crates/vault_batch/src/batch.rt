@@ -27,7 +27,7 @@ use vault_core::source::Source;
 use vault_engine::ask::ask;
 use vault_store::tables::Tables;
 use vault_store::vault::Vault;
-use vault_wire::send::send;
+use vault_wire::watched::send;
 use vault_wire::watched::Watched;
 
 /// What goes out before all rows' lines.

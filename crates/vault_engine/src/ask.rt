@@ -22,7 +22,7 @@ use vault_pan::draw::Digits;
 use vault_refusal::refusal::Refusal;
 use vault_store::tables::Tables;
 use vault_store::vault::{Fault, Vault};
-use vault_wire::send::send;
+use vault_wire::watched::send;
 use vault_wire::watched::Watched;
 
 /// What a unit comes to.

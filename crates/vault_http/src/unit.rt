@@ -17,7 +17,7 @@ use vault_refusal::refusal::Refusal;
 use vault_routes::fault::HttpFault;
 use vault_routes::reply::{body_of, refusal_text};
 use vault_routes::route::Route;
-use vault_routes::status::{status_by, status_of};
+use vault_routes::reply::{status_by, status_of};
 use vault_routes::wanted::command_at;
 use vault_wire::answer::answer_text;
 use vault_wire::message::Message;

@@ -8,7 +8,7 @@ use vault_core::moment::Moment;
 use vault_live::desk::Desk;
 use vault_live::following::Following;
 use vault_live::kind::Kind;
-use vault_live::maybe::Maybe;
+use vault_live::office::Maybe;
 use vault_live::sweeps::Sweeps;
 use vault_merchants::read::ListedMerchant;
 

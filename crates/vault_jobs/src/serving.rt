@@ -20,7 +20,7 @@ use crate::task::Outcome;
 use std::io::Write;
 use vault_listen::network::Network;
 use vault_listen::time::Timekeeper;
-use vault_live::both::{Both, BothKept};
+use vault_live::office::{Both, BothKept};
 use vault_live::desk::Desk;
 use vault_live::merchants::Merchants;
 use vault_live::remembered::Remembered;

@@ -1,8 +1,6 @@
 //! A vault that is served over connections, one connection after the other.
 #![tactic(auto)]
 
-pub mod connection;
-pub mod draw;
 pub mod elapsed;
 pub mod fault;
 pub mod limits;
@@ -11,7 +9,6 @@ pub mod live;
 pub mod network;
 pub mod peer;
 pub mod peers;
-mod quiet;
 pub mod service;
 pub mod stream;
 pub mod tcp;

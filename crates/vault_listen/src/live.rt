@@ -1,15 +1,14 @@
 //! A source of moments that are told and of digits that are drawn.
-ghost use Rattle.std.specs.Prelude.{◌≡◌, ◌+◌, Some, None, true, false};
-ghost use Rattle.std.specs.Prelude.{IfSome, OnSome, length};
+ghost use Rattle.std.specs.Prelude.{◌≡◌, ◌+◌, Some, None, true, false, IfSome, OnSome, length};
 
-use crate::draw::drawn;
 use crate::time::Questions;
+use rand::RngExt;
 use rand_core::Rng;
 use std::alloc::Global;
 use std::time::Duration;
 use vault_core::moment::Moment;
 use vault_core::source::{Source, SourceFault};
-use vault_pan::draw::Digits;
+use vault_pan::draw::{DRAWN_DIGITS, Digits};
 
 /// Gives the time and 300 digits that a generator draws, a number of times, and keeps the pairs that it gave.
 /// The moment, the digits or both may be fixed: then each pair has them. It may have an end, from which on it
@@ -182,4 +181,25 @@ impl<Q: Questions, G: Rng> Source for LiveSource<Q, G> {
       goes_on = λ k m d from. q.goes_on k m d (p.goes_on k m d from);
       counted = q.counted ∙ p.counted;
     } };
+}
+
+/// How many digits a drawn number gives.
+const AT_ONCE: usize = 9;
+
+/// Draws digits, each of the ten as likely as the others at each place: nine at once are those of a number
+/// below a thousand million, since a number that is drawn costs more than its digits.
+pub fn drawn<G: Rng>(generator: &mut G) -> Digits {
+    let mut values = [0u8; DRAWN_DIGITS];
+    let mut number = 0;
+    for (place, value) in values.iter_mut().enumerate() {
+        if place % AT_ONCE == 0 {
+            number = generator.random_range(0..1_000_000_000u32);
+        }
+        *value = (number % 10) as u8;
+        number /= 10;
+    }
+    match Digits::new(&values) {
+        Some(digits) => digits,
+        None => unreachable!(),
+    }
 }

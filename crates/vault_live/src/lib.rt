@@ -1,7 +1,6 @@
 //! A vault that is served over connections and steered between them.
 #![tactic(auto)]
 
-pub mod both;
 mod carrying;
 pub mod desk;
 mod first;
@@ -11,7 +10,6 @@ pub mod kind;
 mod known;
 pub mod laws;
 pub mod listed;
-pub mod maybe;
 pub mod merchants;
 pub mod news;
 pub mod office;

@@ -1,4 +1,4 @@
-//! What is done with a vault between two connections.
+//! What has something to do between two connections: one office, one that may be absent, or two.
 ghost use Rattle.std.specs.Prelude.{◌≡◌, Err, Ok, false, true};
 ghost use Rattle.vault_store.specs.Applied.{is_broken, tables_of};
 ghost use Rattle.vault_engine.specs.Passing.{Passage};
@@ -65,4 +65,95 @@ pub trait Office {
         requires { remembers self.now kept.old }
         // what it remembers is its own still
         ensures { remembers self.now kept.new };
+}
+
+/// An office, or none, which asks for nothing.
+#[derive(Drop)]
+pub struct Maybe<O> {
+    pub office: Option<O>,
+}
+
+impl<O: Office> Office for Maybe<O> {
+    ghost use Rattle.std.specs.Prelude.{IfSome, IsSomeAnd, false};
+    ghost use Rattle.std.specs.Option.{option_map_or};
+
+    type Kept = O::Kept;
+
+    ghost asks = { λ maybe tells V cs. IsSomeAnd maybe.office (λ office. O.asks office tells V cs) };
+
+    ghost remembers = { λ maybe kept. IfSome maybe.office (λ office. O.remembers office kept) };
+
+    ghost acts = { λ maybe. option_map_or O.acts maybe.office false };
+
+    fn attend<K: Timekeeper, T: Tables>(
+        &self,
+        kept: &mut O::Kept,
+        time: &K,
+        vault: &mut Vault<T>,
+    ) -> Result<News, ListenFault> {
+        match &self.office {
+            Some(office) => office.attend(kept, time, vault),
+            None => Ok(News::Nothing),
+        }
+    }
+
+    fn again(&self, kept: &mut O::Kept) {
+        if let Some(office) = &self.office {
+            office.again(kept);
+        }
+    }
+}
+
+/// What two offices remember.
+#[derive(Drop)]
+pub struct BothKept<A, B> {
+    pub first: A,
+    pub second: B,
+}
+
+/// Two offices. The second one is asked where the first one did nothing and has nothing to say. Where the
+/// first one changed merchants or rights, the second one tries again what was refused for want of them.
+#[derive(Drop)]
+pub struct Both<A, B> {
+    pub first: A,
+    pub second: B,
+}
+
+impl<A: Office, B: Office> Office for Both<A, B> {
+    ghost use Rattle.std.specs.Prelude.{◌⊎◌, ◌||◌};
+
+    type Kept = BothKept<A::Kept, B::Kept>;
+
+    ghost asks = { λ both tells V cs. A.asks both.first tells V cs ⊎ B.asks both.second tells V cs };
+
+    ghost remembers = { λ both kept. A.remembers both.first kept.first
+        × B.remembers both.second kept.second };
+
+    ghost acts = { λ both. A.acts both.first || B.acts both.second };
+
+    fn attend<K: Timekeeper, T: Tables>(
+        &self,
+        kept: &mut BothKept<A::Kept, B::Kept>,
+        time: &K,
+        vault: &mut Vault<T>,
+    ) -> Result<News, ListenFault> {
+        let news = self.first.attend(&mut kept.first, time, vault)?;
+        match news {
+            News::Nothing => self.second.attend(&mut kept.second, time, vault),
+            News::Set(..) => {
+                self.second.again(&mut kept.second);
+                Ok(news)
+            }
+            News::Changed(..) => {
+                self.second.again(&mut kept.second);
+                Ok(news)
+            }
+            _ => Ok(news),
+        }
+    }
+
+    fn again(&self, kept: &mut BothKept<A::Kept, B::Kept>) {
+        self.first.again(&mut kept.first);
+        self.second.again(&mut kept.second);
+    }
 }

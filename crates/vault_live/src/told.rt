@@ -4,8 +4,7 @@ ghost use Rattle.vault_wire.specs.Watching.{inner_of, is_stopped};
 ghost use Rattle.vault_live.specs.Told.{Tells};
 
 use std::io::Write;
-use vault_wire::send::send;
-use vault_wire::watched::Watched;
+use vault_wire::watched::{Watched, send};
 
 /// Writes a line, part by part. A failure of the writer isn't told.
 pub fn tell<W: Write>(writer: &mut Watched<W>, parts: &[&str])

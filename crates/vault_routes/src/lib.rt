@@ -3,9 +3,7 @@
 
 pub mod body;
 pub mod fault;
-mod plain;
 pub mod reply;
 pub mod route;
-pub mod status;
 pub mod table;
 pub mod wanted;

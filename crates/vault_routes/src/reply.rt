@@ -1,9 +1,15 @@
-//! The JSON text of a reply.
-ghost use Rattle.std.specs.Prelude.{◌≡◌, ◌++◌, IfOk, decimal};
-ghost use Rattle.vault_routes.specs.Reply.{body_text, refusal_text as refused_text, shown_text as shown_lem};
+//! What a reply comes to as an answer: its status and its JSON body.
+ghost use Rattle.std.specs.Prelude.{◌≡◌, ◌++◌, IfOk, decimal, ◌↔◌};
+ghost use Rattle.vault_routes.specs.Reply.{body_text, refusal_text as refused_text};
+ghost use Rattle.vault_routes.specs.Reply.{shown_text as shown_lem};
+ghost use Rattle.vault_core.specs.declared.reply.Reply.TheVariants.{Refused};
+ghost use Rattle.vault_refusal.specs.Refusal.{number_of};
+ghost use Rattle.vault_routes.specs.Status.{status_for as code_for, status_of as code_of};
+ghost use Rattle.vault_wire.specs.Status.{IsStatus};
 
 use std::alloc::{AllocError, Global};
 use vault_core::reply::Reply;
+use vault_refusal::refusal::{OTHER_STATUS, Refusal, status_at};
 
 /// The text of a refusal, by its number.
 pub fn refusal_text(alloc: Global, number: u8) -> Result<Vec<u8>, AllocError>
@@ -98,5 +104,48 @@ pub fn body_of(alloc: Global, reply: &Reply) -> Result<Vec<u8>, AllocError>
             denied,
         } => counts_text(alloc, *made, *given, *denied),
         Reply::Refused(number) => refusal_text(alloc, *number),
+    }
+}
+
+/// The status of a refusal.
+#[tactic(auto, using(crate::proofs::Statuses::status_is, crate::proofs::Statuses::status_itself))]
+pub fn status_by(refusal: Refusal) -> u16
+    // it is the status of its number
+    ensures code { result ≡ code_for (number_of refusal) }
+    // the service answers with this status
+    ensures status { IsStatus result }
+{
+    refusal.status()
+}
+
+/// The status of a refusal, by its number. A number that none has is answered by 507.
+#[tactic(auto, using(crate::proofs::Statuses::status_is, crate::proofs::Statuses::with_57))]
+pub fn status_for(refusal: u8) -> u16
+    // it is the status of the refusal of this number, or that of a number that none has
+    ensures code { result ≡ code_for refusal }
+    // the service answers with this status
+    ensures status { IsStatus result }
+    // it is 405 exactly for 57
+    ensures allow { (result ≡ 405) ↔ (refusal ≡ 57) }
+{
+    status_at(refusal).unwrap_or(OTHER_STATUS)
+}
+
+/// The status of a reply: 200 unless it is a refusal.
+pub fn status_of(reply: &Reply) -> u16
+    // it is 200, or the status of the refusal
+    ensures code { result ≡ code_of reply.now }
+    // the service answers with this status
+    ensures status { IsStatus result }
+    // it is 405 exactly for a refusal by 57
+    ensures allow { (result ≡ 405) ↔ (reply.now ≡ Refused 57) }
+{
+    match *reply {
+        Reply::Refused(number) => status_for(number),
+        Reply::Done
+        | Reply::Token { .. }
+        | Reply::Number(_)
+        | Reply::Shown { .. }
+        | Reply::Counts { .. } => 200,
     }
 }

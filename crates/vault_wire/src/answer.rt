@@ -2,9 +2,8 @@
 ghost use Rattle.std.specs.Prelude.{◌≡◌, ◌++◌, IfOk, OnOk, option_map, string_bytes};
 ghost use Rattle.vault_wire.specs.Answer.{allow_line, answer_bytes, close_line, field_line, length_line};
 ghost use Rattle.vault_wire.specs.Answer.{status_line};
-ghost use Rattle.vault_wire.specs.Status.{IsStatus};
+ghost use Rattle.vault_wire.specs.Status.{IsStatus, reason_of};
 
-use crate::status::reason_of;
 use std::alloc::{AllocError, Global};
 
 // The status line.
@@ -73,4 +72,27 @@ pub fn answer_text(
     let mut bytes = text.into_bytes();
     bytes.extend_from_slice(body)?;
     Ok(bytes)
+}
+
+/// The words behind a status code; none behind a code that the service doesn't answer with.
+#[tactic(auto, unfolding(crate::specs::Status::reason_of))]
+pub fn reason_of(status: u16) -> &'static str
+    ensures { result.now ≡ reason_of status }
+{
+    match status {
+        200 => "OK",
+        400 => "Bad Request",
+        403 => "Forbidden",
+        404 => "Not Found",
+        405 => "Method Not Allowed",
+        409 => "Conflict",
+        410 => "Gone",
+        411 => "Length Required",
+        413 => "Payload Too Large",
+        422 => "Unprocessable Entity",
+        431 => "Request Header Fields Too Large",
+        503 => "Service Unavailable",
+        507 => "Insufficient Storage",
+        _ => "",
+    }
 }

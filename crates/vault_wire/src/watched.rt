@@ -1,12 +1,13 @@
-//! A reader or a writer that is watched for its first failure.
-ghost use Rattle.std.specs.Prelude.{◌≡◌, length, true, false, is_err, OnOk};
+//! A reader or a writer that is watched for its first failure, and bytes that go out to such a writer.
+ghost use Rattle.std.specs.Prelude.{◌≡◌, length, true, false, is_err, OnOk, ℕ, ◌<◌, take, OnErr, IsErr};
 ghost use Rattle.std.specs.Io.{ReadsAtMost, WritesAtMost};
-ghost use Rattle.std.specs.Io.KnownBytes.{Keeps, ReadConsumes, WriteAppends};
+ghost use Rattle.std.specs.Io.KnownBytes.{Keeps, ReadConsumes, WriteAppends, Appends};
 ghost use Rattle.vault_wire.specs.Watching.{inner_of, is_stopped, tells_failure};
 
 use crate::place::Guide;
-use std::io;
+use std::error::Error;
 use std::io::{ErrorKind, Read, Write};
+use std::{fmt, io};
 
 /// A reader or a writer whose first failure stops it: an `Err`, or a write that takes no byte of
 /// some. From then on each call is an `Err` of the kind `Other`, and the inner one isn't called.
@@ -129,4 +130,53 @@ impl<W: Write> Write for Watched<W> {
         self.stopped = flushed.is_err();
         flushed
     }
+}
+
+/// The writer took only a beginning of the bytes.
+#[derive(Debug, Drop)]
+pub struct WriteFailed;
+
+impl fmt::Display for WriteFailed {
+    ghost use Rattle.std.specs.Prelude.{Some, codes};
+
+    ghost output = { λ _. Some (codes "the writer took only a beginning of the bytes") };
+
+    fn fmt<W: fmt::Write>(&self, f: &mut fmt::Formatter<W>) -> fmt::Result {
+        write!(f, "the writer took only a beginning of the bytes")
+    }
+}
+
+impl Error for WriteFailed {}
+
+/// Writes the bytes in order, and doesn't flush. After a failure a beginning of them is out, and
+/// not all; nothing is where the writer had failed before.
+pub fn send<W: Write>(writer: &mut Watched<W>, bytes: &[u8]) -> Result<(), WriteFailed>
+    // with Ok, the bytes stand behind what the writer held, where that is known
+    ensures ok { let old = W.contents (inner_of writer.old) in let new = W.contents (inner_of writer.new) in
+        OnOk result (Appends old new bytes.now) }
+    // with Err, a beginning of the bytes, and not all, stands behind what the writer held, where that is
+    // known
+    ensures err { let old = W.contents (inner_of writer.old) in let new = W.contents (inner_of writer.new) in
+        OnErr result ((n : ℕ) × (n < length bytes.now) × Appends old new (take n bytes.now)) }
+    // after Err the writer has failed
+    ensures failed { OnErr result (is_stopped writer.new ≡ true) }
+    // with Ok, whether the writer has failed stays as it was
+    ensures goes { OnOk result (is_stopped writer.new ≡ is_stopped writer.old) }
+    // where the writer had failed and there are bytes, it is an Err, and the writer stays as it was
+    ensures refused { is_stopped writer.old ≡ true → 0 < length bytes.now
+        → IsErr result × (writer.new ≡ writer.old) }
+{
+    let mut sent = 0;
+    while sent < bytes.len() {
+        match writer.write(&bytes[sent..]) {
+            Ok(n) => {
+                if writer.failed() {
+                    return Err(WriteFailed);
+                }
+                sent += n;
+            }
+            Err(_) => return Err(WriteFailed),
+        }
+    }
+    Ok(())
 }

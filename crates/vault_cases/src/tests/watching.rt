@@ -4,7 +4,7 @@ use std::cell::Cell;
 use std::io;
 use std::io::{ErrorKind, Read, Write};
 use vault_script::fakes::{TestReader, TestWriter, WriteFailure};
-use vault_wire::send::send;
+use vault_wire::watched::send;
 use vault_wire::watched::Watched;
 
 /// Whether this is what a call of a reader gives that fails at its call `bad`.

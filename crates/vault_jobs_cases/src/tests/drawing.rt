@@ -1,7 +1,7 @@
 //! Drawings of one generator, by how often digits come.
 use rand::SeedableRng;
 use rand::rngs::StdRng;
-use vault_listen::draw::drawn;
+use vault_listen::live::drawn;
 use vault_pan::draw::Digits;
 
 /// How many digits of a drawing are the ones before them.

@@ -5,7 +5,7 @@ use Rattle.vault_engine.specs.Passing.{passing}
 use Rattle.vault_http.specs.Served.{IsServed, IsStopped}
 use Rattle.vault_listen.specs.Live.{pairs_of}
 use Rattle.vault_listen.proofs.Turns.{begun_with, given_since}
-use Rattle.vault_listen.proofs.connection.serve_connection.Goals as goal
+use Rattle.vault_listen.proofs.service.serve_connection.Goals as goal
 
 either_way : {X E : Type 0} (r : Result X E) (P : X → Type 0) (Q : E → Type 0) → IfOk r P → IfErr r Q
     → MatchResult r P Q

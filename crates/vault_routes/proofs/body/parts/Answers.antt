@@ -2,7 +2,7 @@ use Rattle.std.proofs.Common.{◌∙◌, ◌++◌, Some, ap}
 use Rattle.std.specs.Prelude.{codes}
 use Rattle.std.proofs.lemmas.Slice.Eq.{strip_prefix_is, strip_suffix_is}
 use Rattle.std.specs.Cmp.{unsigned_Decides}
-use Rattle.vault_routes.proofs.plain.parts.Goals as goal
+use Rattle.vault_routes.proofs.body.parts.Goals as goal
 
 pub returns : goal.returns
 returns c =

@@ -1,7 +1,7 @@
 use Rattle.std.proofs.Common.{arith, sym, ◌∙◌}
 use Rattle.std.proofs.lemmas.List.{take_rest}
 use Rattle.vault_wire.proofs.SendFacts.{appends_more, takes_some}
-use Rattle.vault_wire.proofs.send.send.Goals as goal
+use Rattle.vault_wire.proofs.watched.send.Goals as goal
 
 pub loop-sent-preserved : goal.loop-sent-preserved
 loop-sent-preserved g c =

@@ -2,7 +2,7 @@ use Rattle.std.proofs.Common.{◌⊎◌, inr, Ok, subst}
 use Rattle.vault_listen.specs.Peers.{vault_passing}
 use Rattle.vault_live.proofs.Attending.{attends_as, attends_then, untouched}
 use Rattle.vault_live.specs.Turns.{Asking, Attends}
-use Rattle.vault_live.proofs.both.BothOffice.attend.Goals as goal
+use Rattle.vault_live.proofs.office.BothOffice.attend.Goals as goal
 
 pub returns-in-Nothing-clause-attends : goal.returns-in-Nothing-clause-attends
 returns-in-Nothing-clause-attends g c =

@@ -1,6 +1,6 @@
 use Rattle.std.proofs.Common.{length, ◌-◌, ◌≡◌, ◌≤◌, ◌<◌, take, false}
 use Rattle.std.specs.Io.KnownBytes.{Appends}
-use Rattle.vault_wire.proofs.send.send.Given as goal
+use Rattle.vault_wire.proofs.watched.send.Given as goal
 
 abbrev pub invariant-loop-sent : goal.invariant-loop-sent
 invariant-loop-sent g l =

@@ -1,5 +1,5 @@
 use Rattle.std.proofs.Common.{◌≡◌, true, false, length, arith}
-use Rattle.vault_listen.proofs.draw.drawn.Goals as goal
+use Rattle.vault_listen.proofs.live.drawn.Goals as goal
 
 pub unreachable-requires : goal.unreachable-requires
 unreachable-requires g c =
