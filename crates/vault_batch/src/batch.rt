@@ -27,8 +27,7 @@ use vault_core::source::Source;
 use vault_engine::ask::ask;
 use vault_store::tables::Tables;
 use vault_store::vault::Vault;
-use vault_wire::watched::send;
-use vault_wire::watched::Watched;
+use vault_wire::watched::{Watched, send};
 
 /// What goes out before all rows' lines.
 const FIRST_LINE: &[u8] = b"request,answer,detail\n";

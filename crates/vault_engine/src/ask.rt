@@ -22,8 +22,7 @@ use vault_pan::draw::Digits;
 use vault_refusal::refusal::Refusal;
 use vault_store::tables::Tables;
 use vault_store::vault::{Fault, Vault};
-use vault_wire::watched::send;
-use vault_wire::watched::Watched;
+use vault_wire::watched::{Watched, send};
 
 /// What a unit comes to.
 #[derive(Clone, Copy, Drop)]

@@ -27,8 +27,7 @@ use vault_wire::fault::WireFault;
 use vault_wire::intake::Intake;
 use vault_wire::message::Message;
 use vault_wire::place::{Guide, Silent};
-use vault_wire::watched::send;
-use vault_wire::watched::Watched;
+use vault_wire::watched::{Watched, send};
 
 /// The most bytes that are read at once.
 const PIECE: usize = 4096;

@@ -8,8 +8,7 @@ ghost use Rattle.vault_jobs.specs.Failing.{GoesOn};
 use std::io::Write;
 use vault_http::fault::ServeFault;
 use vault_live::told::tell;
-use vault_wire::watched::send;
-use vault_wire::watched::Watched;
+use vault_wire::watched::{Watched, send};
 
 /// Writes the line that answers a job, part by part, and hands it on. 62 Write: the writer failed.
 pub fn answer<W: Write>(output: &mut Watched<W>, parts: &[&str]) -> Result<(), ServeFault>

@@ -4,8 +4,7 @@ use std::cell::Cell;
 use std::io;
 use std::io::{ErrorKind, Read, Write};
 use vault_script::fakes::{TestReader, TestWriter, WriteFailure};
-use vault_wire::watched::send;
-use vault_wire::watched::Watched;
+use vault_wire::watched::{Watched, send};
 
 /// Whether this is what a call of a reader gives that fails at its call `bad`.
 fn is_read(read: &io::Result<usize>, call: usize, bad: usize) -> bool {
