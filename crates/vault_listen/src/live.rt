@@ -191,12 +191,15 @@ const AT_ONCE: usize = 9;
 pub fn drawn<G: Rng>(generator: &mut G) -> Digits {
     let mut values = [0u8; DRAWN_DIGITS];
     let mut number = 0;
-    for (place, value) in values.iter_mut().enumerate() {
-        if place % AT_ONCE == 0 {
+    let mut left = 0;
+    for value in values.iter_mut() {
+        if left == 0 {
             number = generator.random_range(0..1_000_000_000u32);
+            left = AT_ONCE;
         }
         *value = (number % 10) as u8;
         number /= 10;
+        left -= 1;
     }
     match Digits::new(&values) {
         Some(digits) => digits,

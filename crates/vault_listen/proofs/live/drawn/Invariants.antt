@@ -1,5 +1,5 @@
 use Rattle.std.proofs.Common.{ℕ, ◌<◌, get_or}
 use Rattle.vault_listen.proofs.live.drawn.Given as goal
 
-abbrev pub invariant-loop-place : goal.invariant-loop-place
-invariant-loop-place g l = (k d : ℕ) → k < l.place → get_or l.value-items k d < 10
+abbrev pub invariant-loop-value : goal.invariant-loop-value
+invariant-loop-value g l = (k d : ℕ) → k < l.value-index → get_or l.value-items k d < 10
