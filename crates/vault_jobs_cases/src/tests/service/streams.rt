@@ -1,10 +1,10 @@
 //! Peers over a stream in memory: which of them give way, and what is read and written meanwhile.
-use crate::tests::clocks::TestClock;
 use std::alloc::Global;
 use std::cell::Cell;
 use std::io;
 use std::io::{Read, Write};
 use std::rc::Rc;
+use std::rt::Clock;
 use std::time::Duration;
 use vault_http::fault::ServeFault;
 use vault_http::served::Served;
@@ -69,6 +69,20 @@ impl<'a> Stream for TestStream<'a> {
     }
 }
 
+/// A clock by which no time passes.
+#[derive(Clone, Copy)]
+struct StillClock;
+
+impl Clock for StillClock {
+    fn monotonic(&self) -> io::Result<Duration> {
+        Ok(Duration::from_secs(0))
+    }
+
+    fn since_1970(&self) -> io::Result<Duration> {
+        Ok(Duration::from_secs(1000))
+    }
+}
+
 /// Where a reader stands, what a look finds, what a read gives, and whether its peer has a last turn.
 type Case = (bool, Seen, Option<usize>, bool);
 
@@ -117,8 +131,7 @@ fn ends_so(alloc: Global, case: Case) -> io::Result<bool> {
         read: &read,
         ended: &ended,
     };
-    let clock = TestClock::at(1000);
-    let elapsed = Rc::new(alloc, Elapsed::new(&clock, Limits::of_service())?)?;
+    let elapsed = Rc::new(alloc, Elapsed::new(StillClock, Limits::of_service())?)?;
     let mut reader = Watched::new(PeerReader::new(stream, elapsed));
     reader.tell(&Telling, is_between);
     let came = reader.read(&mut [0; 9]).ok();
@@ -147,8 +160,7 @@ fn told_of_a_cut(alloc: Global) -> io::Result<usize> {
         read: &read,
         ended: &ended,
     };
-    let clock = TestClock::at(1000);
-    let elapsed = Rc::new(alloc, Elapsed::new(&clock, Limits::of_service())?)?;
+    let elapsed = Rc::new(alloc, Elapsed::new(StillClock, Limits::of_service())?)?;
     PeerWriter::new(stream, elapsed).write(b"ab")
 }
 
