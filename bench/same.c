@@ -36,7 +36,7 @@ static int remainder_of(const char *digits)
 // A card number, another one for each place below 10 to the ninth; they come in no order.
 static void card_for(int64_t place, char card[TOKEN + 1])
 {
-    snprintf(card, TOKEN + 1, "411111%09lld0", (long long)(place * 618033989 % 1000000000));
+    snprintf(card, TOKEN + 1, "411111%09llu0", (unsigned long long)place * 618033989 % 1000000000);
     card[TOKEN - 1] = (char)('0' + (10 - remainder_of(card)) % 10);
 }
 
