@@ -50,9 +50,9 @@ mode a = 600
 mode a-wal = 600
 mode b = 600
 mode b-wal = 600""",
-    "a new file has pages of 1024 bytes": """\
+    "a new file has pages of 512 bytes": """\
 open a = opened
-pages a = 1024
+pages a = 512
 there a-new = no
 check a = sound 0 0 0""",
     "a file keeps the pages that it has": """\

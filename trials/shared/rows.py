@@ -87,7 +87,8 @@ def lowered(rows, version):
 
 
 def write(path, rows, version):
-    """Makes a file of schema 1, 2 or 3 with these rows, as a program of that schema did."""
+    """Makes a file of schema 1, 2 or 3 with these rows, as a program of that schema did: its pages have 1024
+    bytes."""
     conn = sqlite3.connect(path, isolation_level=None)
     conn.execute("PRAGMA page_size = 1024")
     conn.executescript(tables(version))

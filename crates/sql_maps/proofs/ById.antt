@@ -1,22 +1,20 @@
 -- What each kind of statement makes, and each kind of query shows, of a table whose key is its rowid.
 use Rattle.std.proofs.Common.{◌≡◌, ◌⊎◌, inl, inr, ℕ, ℤ, List, [], ◌∷◌, map, drop, length, ◌/◌, Bool, true}
 use Rattle.std.proofs.Common.{Option, Some, None, refl, sym, ap, subst, ◌∙◌, int_cmp, slice_get}
-use Rattle.std.proofs.Common.{unwrap_or}
 use Rattle.std.proofs.lemmas.List.Sorted.{IsPermutation-sym}
 use Rattle.std.specs.List.{list_all}
 use Rattle.std.specs.Ordering.{eq_by_cmp}
 use Rattle.sqlite.specs.Cast.{cast_row}
-use Rattle.sqlite.specs.Edit.{next_rowid, numbered, put_all, without_all}
+use Rattle.sqlite.specs.Edit.{id_in, next_rowid, put_all, with_rowid, without_all}
 use Rattle.sqlite.specs.Effect.{Database, IsDatabase, value_rows}
 use Rattle.sqlite.specs.Order.{Row, column}
 use Rattle.sqlite.specs.Program.{overlay}
 use Rattle.sqlite.specs.Query.{IsAnswer}
 use Rattle.sqlite.specs.Rowids.TheVariants.{Chosen}
-use Rattle.sqlite.specs.Rows.{last_id}
 use Rattle.sqlite.specs.Schema.{Schema}
 use Rattle.sqlite.specs.State.{State, Shown}
 use Rattle.sqlite.specs.Term.{Term, col, holds}
-use Rattle.sqlite.specs.Tree.{Trees}
+use Rattle.sqlite.specs.Tree.{Trees, rowid}
 use Rattle.sqlite.specs.declared.types.Value.TheVariants.{Null, Int}
 use Rattle.sqlite_rules.proofs.ListLemmas.{has_filtered, has_kept}
 use Rattle.sqlite_rules.proofs.ProbeLemmas.{has_mapped, mapped_has}
@@ -27,7 +25,8 @@ use Rattle.sql_maps.specs.Codes.{fit}
 use Rattle.sql_maps.specs.Rows.{AreRowsById, one_of, put}
 use Rattle.sql_maps.specs.Schema.{Descriptor, table_of, is_plain}
 use Rattle.sql_maps.specs.States.{Claim, Stands, Within, at_place}
-use Rattle.sql_maps.specs.Texts.{IsQuery, IsWrite, by_id, delete, insert, query_of, sorted_of}
+use Rattle.sql_maps.specs.Texts.{IsQuery, IsWrite, by_id, delete, insert_or_ignore, query_of}
+use Rattle.sql_maps.specs.Texts.{sorted_of}
 use Rattle.sql_maps.specs.Texts.{update}
 use Rattle.sql_maps.proofs.Answers.{answers, has_permuted, passing, shown_as, shows_none, shows_row}
 use Rattle.sql_maps.proofs.Keys.{cast_row_fits, cast_row_new}
@@ -37,7 +36,7 @@ use Rattle.sql_maps.proofs.Reading.{answer_of}
 use Rattle.sql_maps.proofs.RowsById.{at_id, found_one_id, free_id, inserted_id, passes_id}
 use Rattle.sql_maps.proofs.RowsById.{removed_id, replaced_id, same_put}
 use Rattle.sql_maps.proofs.Statements.{Ran, written}
-use Rattle.sql_maps.proofs.Steps.{Wrote, delete_wrote, insert_wrote, update_wrote}
+use Rattle.sql_maps.proofs.Steps.{Came, Wrote, delete_wrote, ignore_wrote, update_wrote}
 
 -- a table of a schema whose key is its rowid
 pub record ById {X : Type 0} (s : Schema) (value : X → Row) : Type 0 where
@@ -82,23 +81,39 @@ module _ {s : Schema} (fine : is_plain s ≡ true) {claims : List Claim} {base :
   abbrev pub new_id : ℤ
   new_id = next_rowid (db t.table.tree)
 
-  -- INSERT with NULL for the id: the new id was free, and is now the last rowid
-  pub insert_id : (x : X) (width : ℕ) (terms : List Term)
-      → IsWrite s text (insert t.place width terms)
+  -- INSERT OR IGNORE with NULL for the id: a row came, whose id was free and is now the last rowid, or
+  -- nothing changed
+  pub try_id : (x : X) (width : ℕ) (terms : List Term)
+      → IsWrite s text (insert_or_ignore t.place width terms)
       → value_rows params width (length terms / width) terms ≡ (Null ∷ value x) ∷ []
-      → (held new_id ≡ None) × IsPutId new_id (Some x) × (new.last_rowid ≡ new_id)
-  insert_id x width terms it one =
-      let did = insert_wrote s fine t.table text params old new run.count t.place t.here
-      run.within.stands.schema run.ran.0 _ it in
-      let cast = cast_row (table_of t.table) in
-      let news : numbered Chosen (db t.table.tree) (map cast did.0) ≡ (Int new_id ∷ value x) ∷ [] =
-      ap (λ l. numbered Chosen (db t.table.tree) (map cast l)) (did.1.1 ∙ one)
-      ∙ ap (λ r. numbered Chosen (db t.table.tree) (r ∷ [])) (cast_row_new t.table (value x) (t.fits x)) in
-      let now = subst (λ l. Wrote s t.table.tree [] l db new.now) news did.2 in (
-        free_id were_rows new_id (value x) now.fresh,
-        put_ids new_id (Some x) did.3 [] _ now (inserted_id were_rows new_id x now.fresh),
-        did.4 ∙ ap (λ l. unwrap_or (last_id l) old.last_rowid) news,
-      )
+      → ((run.count ≡ 1) × (held new_id ≡ None) × IsPutId new_id (Some x) × (new.last_rowid ≡ new_id))
+      ⊎ ((run.count ≡ 0)
+      × Within s (at_place claims t.place (λ rows. AreRowsById value rows held)) base new)
+  try_id x width terms it one =
+      let did = ignore_wrote s fine t.table text params old new run.count t.place t.here
+      run.within.stands.schema run.ran.0 terms width (Null ∷ value x) it one in
+      let with_id = λ (r : Row). with_rowid Chosen (db t.table.tree) r in
+      let came = subst (λ r. Came s t.table r db new run.count)
+      (ap with_id (cast_row_new t.table (value x) (t.fits x))) did.0 in
+      let fits = cast_row_fits t.table new_id (value x) (t.fits x) in
+      elim came as (λ _. ((run.count ≡ 1) × (held new_id ≡ None) × IsPutId new_id (Some x)
+      × (new.last_rowid ≡ new_id))
+      ⊎ ((run.count ≡ 0)
+      × Within s (at_place claims t.place (λ rows. AreRowsById value rows held)) base new)) [
+        | inl it ↦
+            let now = subst (λ r. Wrote s t.table.tree [] (r ∷ []) db new.now) fits it.0 in
+            inl (
+              it.1,
+              free_id were_rows new_id (value x) now.fresh,
+              put_ids new_id (Some x) did.1 [] _ now (inserted_id were_rows new_id x now.fresh),
+              it.2 ∙ ap (λ r. id_in (rowid r)) fits,
+            )
+        | inr it ↦ inr (
+          it.1,
+          written fine run did.1 t.table t.place t.here [] [] (λ rows. AreRowsById value rows held) it.0
+              were_rows,
+        )
+      ]
 
   module _ (p : ℕ) (n : ℤ) (stands : column params p ≡ Int n) where
     -- UPDATE .. WHERE id = ?, of a row that is there

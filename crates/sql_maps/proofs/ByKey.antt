@@ -1,9 +1,9 @@
 -- Tables that stand for pairs, read and edited by their key.
 use Rattle.std.proofs.Common.{◌≡◌, ℤ, List, [], ◌∷◌, drop, filter, Bool, true, Option, Some, None, refl, sym}
 use Rattle.std.proofs.Common.{ap, subst, ◌∙◌, ◌⊎◌, inl, inr, Ordering, ◌≢◌, false, not, cond, Less, Equal}
-use Rattle.std.proofs.Common.{Greater, is_eq, true≢false, arith}
+use Rattle.std.proofs.Common.{Greater, is_eq, true≢false, arith, int_cmp, ◌&&◌}
 use Rattle.std.specs.Cmp.{tied_itself, IsTotalOrder, tied_back}
-use Rattle.std.specs.FinMap.{IsAntisymmetric}
+use Rattle.std.specs.FinMap.{IsAntisymmetric, int_cmp-IsAntisymmetric}
 use Rattle.std.specs.Ordering.{eq_by_cmp, match_ordering}
 use Rattle.sqlite.specs.Edit.{id_in, put_all, without_all, are_fresh}
 use Rattle.sqlite.specs.Order.{Row, value_cmp}
@@ -103,6 +103,42 @@ module _ {K X : Type 0} {cmp : K → K → Ordering} {encode : K → X → Row} 
               let it = found_one p good tests k x h (eq_itself k) (λ q y is e. eq_exact q k e) in
               inr (x, h, it.0, it.1, it.2)
         ] refl
+
+    -- one that passes the row with this rowid, if it is the key's
+    module _ (p : Row → Bool) (n : ℤ) (k : K)
+        (tests : (m : ℤ) (q : K) (y : X)
+        → p (Int m ∷ encode q y) ≡ (eq_by_cmp int_cmp m n && eq_by_cmp cmp q k)) where
+      passes_both : (r : Row) → Has rows r → p r ≡ true
+          → (y : X) × (held k ≡ Some y) × (r ≡ Int n ∷ encode k y)
+      passes_both r h e =
+          let it = are.sound r h in
+          let is = whole r (encode it.0 it.1) (are.keyed r h) it.2 in
+          let both = and_parts _ _ (sym (tests (id_in (rowid r)) it.0 it.1) ∙ ap p (sym is) ∙ e) in
+          let id = int_cmp-IsAntisymmetric (id_in (rowid r)) n (equal_is _ both.0) in
+          let same = eq_exact it.0 k both.1 in
+          (it.1, ap held (sym same) ∙ it.3, is ∙ (λ i. Int (id i) ∷ encode (same i) it.1))
+
+      pub at_both : (filter p rows ≡ [])
+          ⊎ ((x : X) × (held k ≡ Some x) × Has rows (Int n ∷ encode k x)
+          × (filter p rows ≡ (Int n ∷ encode k x) ∷ []))
+      at_both = elim (filter p rows) as (λ l. filter p rows ≡ l → (filter p rows ≡ [])
+          ⊎ ((x : X) × (held k ≡ Some x) × Has rows (Int n ∷ encode k x)
+          × (filter p rows ≡ (Int n ∷ encode k x) ∷ []))) [
+            | [] ↦ λ none. inl none
+            | r ∷ more ↦ λ some.
+                let kept = has_filtered p rows r (subst (λ l. Has l r) (sym some) (inl refl)) in
+                let it = passes_both r kept.0 kept.1 in
+                let row = Int n ∷ encode k it.0 in
+                let there : Has rows row = subst (Has rows) it.2 kept.0 in
+                inr (
+                  it.0,
+                  it.1,
+                  there,
+                  one_at p rows row are.apart there (ap p (sym it.2) ∙ kept.1) (λ s h e.
+                      let other = passes_both s h e in
+                      are.once s row k other.0 it.0 h there (ap (drop 1) other.2) refl),
+                )
+          ] refl
 
 -- ---- what an edit makes of them
 

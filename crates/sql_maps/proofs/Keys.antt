@@ -1,6 +1,6 @@
 -- What the tests of a key come to, whatever its columns.
 use Rattle.std.proofs.Common.{◌≡◌, ◌&&◌, ◌||◌, ◌++◌, ℕ, ℤ, zero, suc, Bool, true, false, List, [], ◌∷◌}
-use Rattle.std.proofs.Common.{length, map, refl, sym, ap, ◌∙◌, Some, arith, slice_get, Ordering}
+use Rattle.std.proofs.Common.{length, map, refl, sym, ap, ◌∙◌, Some, arith, slice_get, Ordering, int_cmp}
 use Rattle.std.proofs.lemmas.Bool.{and_parts}
 use Rattle.std.specs.List.{list_all, list_any}
 use Rattle.std.specs.Ordering.{eq_by_cmp}
@@ -23,9 +23,9 @@ use Rattle.sqlite_schema.specs.declared.schema.Index.{Index}
 use Rattle.sqlite_value.specs.Keys.{first_key, plain}
 use Rattle.sql_maps.specs.Codes.{Codes, same_values, fits, fit, row_of}
 use Rattle.sql_maps.specs.Schema.{Descriptor, table_of, columns_to, guards_of, below}
-use Rattle.sql_maps.specs.Texts.{by_key, eq}
+use Rattle.sql_maps.specs.Texts.{by_both, by_key, eq}
 use Rattle.sql_maps.proofs.ByKey.{Coding}
-use Rattle.sql_maps.proofs.KeyTests.{equal_is}
+use Rattle.sql_maps.proofs.KeyTests.{equal_is, int_eq}
 
 -- the columns at these places are equal
 abbrev pub same_at : List ℕ → Row → Row → Bool
@@ -144,11 +144,19 @@ module _ {K X : Type 0} {cmp : K → K → Ordering} {columns : List Column} {n 
   }
 
   -- the tests of a look-up pass the row of the key alone
-  pub hits : (k : K) (params : Row) → params ≡ key k ++ [] → (id : ℤ) (q : K) (y : X)
+  pub hits : (k : K) (params rest : Row) → params ≡ key k ++ rest → (id : ℤ) (q : K) (y : X)
       → list_all (holds (params ∷ (Int id ∷ row_of key value q y) ∷ [])) (by_key n) ≡ eq_by_cmp cmp q k
-  hits k params given id q y = tests_are (below n) (Int id) (row_of key value q y) params
+  hits k params rest given id q y = tests_are (below n) (Int id) (row_of key value q y) params
       ∙ ap (same_at (below n) (row_of key value q y)) given
-      ∙ same_first n (key q) (key k) (value y) [] (c.long q) (c.long k) ∙ c.same q k
+      ∙ same_first n (key q) (key k) (value y) rest (c.long q) (c.long k) ∙ c.same q k
+
+  -- with the test of a rowid, they pass that row alone if it is the key's
+  pub hits_both : (k : K) (params rest : Row) → params ≡ key k ++ rest → (place : ℕ) (m : ℤ)
+      → column params place ≡ Int m → (id : ℤ) (q : K) (y : X)
+      → list_all (holds (params ∷ (Int id ∷ row_of key value q y) ∷ [])) (by_both place n)
+      ≡ (eq_by_cmp int_cmp id m && eq_by_cmp cmp q k)
+  hits_both k params rest given place m stands id q y =
+      rw (stands, int_eq id m) (ap (λ b. eq_by_cmp int_cmp id m && b) (hits k params rest given id q y))
 
 -- a table of a schema whose first columns are its key
 pub record Keyed {K X : Type 0} (s : Schema) (cmp : K → K → Ordering) (key : K → Row)

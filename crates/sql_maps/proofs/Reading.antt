@@ -66,7 +66,8 @@ module _ {s : Schema} {claims : List Claim} (old new : State) (it : Stands s cla
       → rows ≡ one_of show (held k)
   look_up project means k given show shows =
       let answer = answer_of means old new it.schema shown in
-      elim (at_key (coding t.codes) are_rows (tested (by_key (suc t.more))) k (hits t.codes k params given))
+      elim (at_key (coding t.codes) are_rows (tested (by_key (suc t.more))) k (hits t.codes k params []
+      given))
       as (λ _. rows ≡ one_of show (held k)) [
         | inl none ↦ shows_none db answer none.1 ∙ sym (ap (one_of show) none.0)
         | inr at ↦ shows_row db answer _ at.4 ∙ ap (λ w. w ∷ []) (shows at.2 at.0)

@@ -38,11 +38,13 @@ use Rattle.sql_maps.specs.Rows.{AreRowsOf, put}
 use Rattle.sql_maps.specs.Schema.{Descriptor, table_of, columns_to, is_plain}
 use Rattle.sql_maps.specs.States.{Claim, StandsIn, Within, at_place}
 use Rattle.sql_maps.specs.Texts.{IsWrite, insert, upsert, update, delete, met_update}
-use Rattle.sql_maps.specs.Texts.{by_key, eq}
+use Rattle.sql_maps.specs.Texts.{by_both, by_key, eq}
 use Rattle.sql_maps.proofs.Answers.{one_at, passing, shown_as, shows_none, shows_row}
-use Rattle.sql_maps.proofs.ByKey.{at_key, eq_itself, passes_key, row_at, inserted, put_again, removed}
+use Rattle.sql_maps.proofs.ByKey.{at_both, at_key, eq_itself, passes_key, row_at, inserted, put_again}
+use Rattle.sql_maps.proofs.ByKey.{removed}
 use Rattle.sql_maps.proofs.ByKey.{fresh_apart, replaced, same_held, same_row}
-use Rattle.sql_maps.proofs.Keys.{Keyed, cast_row_fits, cast_row_new, coding, hits, meets, same_keys}
+use Rattle.sql_maps.proofs.Keys.{Keyed, cast_row_fits, cast_row_new, coding, hits, hits_both, meets}
+use Rattle.sql_maps.proofs.Keys.{same_keys}
 use Rattle.sql_maps.proofs.KeyTests.{equal_is, int_eq, and_true}
 use Rattle.sql_maps.proofs.Plain.{claim_at, claimed, frame}
 use Rattle.sql_maps.proofs.Unique.{one_at_key}
@@ -156,7 +158,7 @@ module _ {s : Schema} (fine : is_plain s ≡ true) {claims : List Claim} {base :
         let now = λ (l : List Row) (e : did.0 ≡ l).
         subst (λ l. Wrote s t.table.tree (ids_of l) [] db new.now) e did.2 in
         elim (at_key (coding t.codes) are_rows (λ r. list_all (holds (params ∷ r ∷ []))
-        (by_key (suc t.more))) k (hits t.codes k params given)) as (λ _. IsPut k None) [
+        (by_key (suc t.more))) k (hits t.codes k params [] given)) as (λ _. IsPut k None) [
           | inl none ↦ put_rows k None did.3 [] [] (now [] (shows_none db did.1 none.1))
               (same_held are_rows (put_again (coding t.codes) are_rows k None none.0))
           | inr at ↦ put_rows k None did.3 (at.2 ∷ []) [] (now _ (shows_row db did.1 _ at.4))
@@ -229,6 +231,15 @@ module _ {s : Schema} (fine : is_plain s ≡ true) {claims : List Claim} {base :
         changed k x y n there sound rows (shows_row db answer (Int n ∷ row_of key value k y)
         (row_with are_rows _ at n _ (stands n) there) ∙ ap (λ r. r ∷ []) (shows n y is)) wrote)
 
+    -- no row was written
+    unchanged : IsDatabase new.now → (rows : List Row) → rows ≡ []
+        → Wrote s t.table.tree (ids_of rows) (map (λ r. cast_row (table_of t.table) (drop 1 r)) rows) db
+        new.now → Within s (at_place claims t.place (λ rows. AreRowsOf (row_of key value) rows held)) base new
+    unchanged sound rows none wrote =
+        written sound t.table t.place t.here [] [] (λ rows. AreRowsOf (row_of key value) rows held)
+        (subst (λ l. Wrote s t.table.tree (ids_of l)
+        (map (λ r. cast_row (table_of t.table) (drop 1 r)) l) db new.now) none wrote) are_rows
+
     -- UPDATE .. WHERE key: the row of the key gets the value, or there is none, and nothing changes
     pub change_in : (k : K) (x : X) (set : List Term)
         → IsWrite s text (update t.place t.table.tree (by_key (suc t.more)) set) → params ≡ key k ++ []
@@ -242,19 +253,37 @@ module _ {s : Schema} (fine : is_plain s ≡ true) {claims : List Claim} {base :
         let did = update_wrote s fine t.table text params old new run.count t.place t.here
         run.within.stands.schema run.ran.0 _ it in
         elim (at_key (coding t.codes) are_rows (λ r. list_all (holds (params ∷ r ∷ []))
-        (by_key (suc t.more))) k (hits t.codes k params given)) [
+        (by_key (suc t.more))) k (hits t.codes k params [] given)) [
           | inl none ↦
               let all : did.0 ≡ [] = shows_none db did.1 none.1 in
-              inl (
-                none.0,
-                did.4 ∙ ap length all,
-                written did.3 t.table t.place t.here [] [] (λ rows. AreRowsOf (row_of key value) rows held)
-                    (subst (λ l. Wrote s t.table.tree (ids_of l)
-                    (map (λ r. cast_row (table_of t.table) (drop 1 r)) l) db new.now) all did.2) are_rows,
-              )
+              inl (none.0, did.4 ∙ ap length all, unchanged did.3 did.0 all did.2)
           | inr at ↦
               let all = shows_row db did.1 _ at.4 ∙ ap (λ r. r ∷ []) (shows at.2 at.0 at.1) in
               inr (at.0, at.1, did.4 ∙ ap length all, changed k x at.0 at.2 at.3 did.3 did.0 all did.2)
+        ]
+
+    -- UPDATE .. WHERE rowid AND key: if the row of the key has that rowid, it gets the value; else nothing
+    -- changes
+    pub change_at : (k : K) (x : X) (rest : Row) (place : ℕ) (n : ℤ) (set : List Term)
+        → IsWrite s text (update t.place t.table.tree (by_both place (suc t.more)) set)
+        → params ≡ key k ++ rest → column params place ≡ Int n
+        → ((m : ℤ) (y : X) → held k ≡ Some y
+        → shown_as params (col 1 0 ∷ col 1 0 ∷ set) (Int m ∷ row_of key value k y)
+        ≡ Int m ∷ Int m ∷ row_of key value k x)
+        → ((run.count ≡ 0)
+        × Within s (at_place claims t.place (λ rows. AreRowsOf (row_of key value) rows held)) base new)
+        ⊎ ((run.count ≡ 1) × IsPut k (Some x))
+    change_at k x rest place n set it given stands shows =
+        let did = update_wrote s fine t.table text params old new run.count t.place t.here
+        run.within.stands.schema run.ran.0 _ it in
+        elim (at_both (coding t.codes) are_rows (λ r. list_all (holds (params ∷ r ∷ []))
+        (by_both place (suc t.more))) n k (hits_both t.codes k params rest given place n stands)) [
+          | inl none ↦
+              let all : did.0 ≡ [] = shows_none db did.1 none in
+              inl (did.4 ∙ ap length all, unchanged did.3 did.0 all did.2)
+          | inr at ↦
+              let all = shows_row db did.1 _ at.3 ∙ ap (λ r. r ∷ []) (shows n at.0 at.1) in
+              inr (did.4 ∙ ap length all, changed k x at.0 n at.2 did.3 did.0 all did.2)
         ]
 
     -- INSERT: a new row with a key that wasn't there

@@ -1,21 +1,23 @@
 -- What an INSERT, an upsert, an UPDATE and a DELETE of one table come to, whatever its columns.
 use Rattle.std.proofs.Common.{◌≡◌, ◌≢◌, ◌⊎◌, inl, inr, ℕ, ℤ, List, [], ◌∷◌, ◌++◌, drop, length, ◌/◌, map}
 use Rattle.std.proofs.Common.{true, slice_get, Option, Some, None, option_map, Ok, Err, Result, refl, sym, ap}
-use Rattle.std.proofs.Common.{subst, ◌∙◌, append-nil, unwrap_or}
+use Rattle.std.proofs.Common.{subst, ◌∙◌, append-nil, unwrap_or, Bool, false, MatchBool}
 use Rattle.std.specs.List.{AllByRecursion}
+use Rattle.std.specs.Option.{option_or}
 use Rattle.std.proofs.lemmas.List.{length-map}
 use Rattle.sqlite.specs.Cast.{cast_row}
 use Rattle.sqlite.specs.Command.TheVariants.{Insert, InsertOr, Update, Delete}
 use Rattle.sqlite.specs.Does.{Tally, OnRows, OnTable, WritesRows, AtPlace}
-use Rattle.sqlite.specs.Edit.{edit_of, put_all, without_all, with_rowid, are_fresh, have_rowids, numbered}
-use Rattle.sqlite.specs.Effect.{Database, IsDatabase, IsSource, value_rows}
+use Rattle.sqlite.specs.Edit.{edit_of, put_all, without_all, with_rowid, are_fresh, have_rowids, id_in}
+use Rattle.sqlite.specs.Edit.{numbered}
+use Rattle.sqlite.specs.Effect.{Database, IsDatabase, IsSource, edit_error, value_rows}
 use Rattle.sqlite.specs.Listing.{understood}
 use Rattle.sqlite.specs.Order.{Row, column}
 use Rattle.sqlite.specs.Program.{overlay}
 use Rattle.sqlite.specs.Query.{Query, IsAnswer}
 use Rattle.sqlite.specs.Rowids.TheVariants.{Chosen, Given}
 use Rattle.sqlite.specs.Rows.{Written, Task, Tries, TriesEach, Upserts, Clears, Puts, nothing, count_of}
-use Rattle.sqlite.specs.Rows.{last_id, shown}
+use Rattle.sqlite.specs.Rows.{Gives, Refuses, joined, last_id, mended, passes_over, shown}
 use Rattle.sqlite.specs.Schema.{Schema}
 use Rattle.sqlite.specs.Source.TheVariants.{Values}
 use Rattle.sqlite.specs.State.{State, Runs, mode_of, Executes}
@@ -31,7 +33,8 @@ use Rattle.sqlite_rules.specs.Keys.{conflicts}
 use Rattle.sqlite_rules.specs.Lists.{Has}
 use Rattle.sqlite_rules.specs.declared.error.Rowids.{Rowids}
 use Rattle.sqlite_schema.specs.declared.command.Command.{Command}
-use Rattle.sqlite_schema.specs.declared.command.Conflict.TheVariants.{Abort}
+use Rattle.sqlite_schema.specs.declared.command.Conflict.{Conflict}
+use Rattle.sqlite_schema.specs.declared.command.Conflict.TheVariants.{Abort, Ignore}
 use Rattle.sqlite_schema.specs.declared.command.Source.{Source}
 use Rattle.sqlite_schema.specs.declared.command.Upsert.{Upsert}
 use Rattle.sqlite_schema.specs.declared.schema.Keys.{Keys}
@@ -73,6 +76,13 @@ Tried s d target update params new old now =
     ⊎ ((there : Row) × Has (old d.tree) there × (conflicts target s.indexes (table_of d) new there ≡ true)
     × (rows : List Row) × Resolves update (params ++ rowid there ∷ shown (table_of d) new) rows old
     × Wrote s d.tree (ids_of rows) (map (λ r. cast_row (table_of d) (drop 1 r)) rows) old now)
+
+-- the row is new, and its rowid the last, or nothing was written
+abbrev pub Came : Schema → Descriptor → Row → Trees → State → ℕ → Type 0
+Came s d new old now count =
+    (Wrote s d.tree [] (cast_row (table_of d) new ∷ []) old now.now × (count ≡ 1)
+    × (now.last_rowid ≡ id_in (rowid (cast_row (table_of d) new))))
+    ⊎ (Wrote s d.tree [] [] old now.now × (count ≡ 0))
 
 -- ON CONFLICT, with an update or without
 abbrev pub clause_of : Option (List ℕ) → Option Query → Upsert
@@ -207,6 +217,15 @@ module _ (s : Schema) (plain : is_plain s ≡ true) (d : Descriptor) where
     clears row one [] h = h
     clears row one (x ∷ more) h = h
 
+    nothing_wrote : (one : Written) → one ≡ nothing db → Wrote s d.tree [] [] db (trees_of one)
+    nothing_wrote one is = record {
+      schema = refl;
+      keyed = refl;
+      fresh = refl;
+      is = ap (λ (w : Written). w.trees d.tree) is;
+      beside = all_from _ s.tables (λ t h far. ap (λ (w : Written). w.trees t.tree) is);
+    }
+
     met : (target : Option (List ℕ)) (update : Option Query) (row : Row) (one : Written)
         → Upserts task Abort row db (clause_of target update ∷ []) (Ok one)
         → Tried s d target update params row db (trees_of one)
@@ -214,21 +233,7 @@ module _ (s : Schema) (plain : is_plain s ≡ true) (d : Descriptor) where
         (puts row one (clears row one rest.0 rest.2), are.complete)
     met target None row one (x ∷ more, are, rest) =
         let from = are.sound x (inl refl) in
-        let same = ap trees_of (same_value rest) in
-        inr (
-          from.0,
-          from.1,
-          from.2,
-          [],
-          refl,
-          record {
-            schema = refl;
-            keyed = refl;
-            fresh = refl;
-            is = ap (λ (b : Database). b.trees d.tree) same;
-            beside = all_from _ s.tables (λ t h far. ap (λ (b : Database). b.trees t.tree) same);
-          },
-        )
+        inr (from.0, from.1, from.2, [], refl, nothing_wrote one (same_value rest))
     met target (Some body) row one (x ∷ more, are, rest) =
         let from = are.sound x (inl refl) in
         let u = went rest in
@@ -253,16 +258,17 @@ module _ (s : Schema) (plain : is_plain s ≡ true) (d : Descriptor) where
     tried target update row one (inr (None, judged, h)) = met target update row one h
     tried target update row one (inr (Some why, judged, h)) = absurd (let e : Ok one ≡ Err _ = h in cc)
 
-    -- INSERT .. ON CONFLICT of one row
-    pub upsert_wrote : (target : Option (List ℕ)) (update : Option Query) (terms : List Term) (width : ℕ)
-        (source : Row)
-        → IsWrite s text (InsertOr at Abort (Values terms width) (clause_of target update ∷ []))
+    -- one row that was tried, and what came of it
+    tried_one : (way : Conflict) (clauses : List Upsert) (terms : List Term) (width : ℕ) (source : Row)
+        → IsWrite s text (InsertOr at way (Values terms width) clauses)
         → value_rows params width (length terms / width) terms ≡ source ∷ []
-        → Tried s d target update params (with_rowid Chosen (db d.tree) (cast_row (table_of d) source)) db
-        new.now × IsDatabase new.now
-    upsert_wrote target update terms width source it one =
-        let clauses = clause_of target update ∷ [] in
-        let done = concluded (InsertOr at Abort (Values terms width) clauses) it
+        → (one : Written)
+        × Tries task way clauses
+        (with_rowid Chosen (db d.tree) (cast_row (table_of d) (mended way (table_of d) source))) db (Ok one)
+        × (new.now ≡ trees_of one) × IsDatabase new.now × (count ≡ length one.rows)
+        × (new.last_rowid ≡ unwrap_or (option_or one.last None) old.last_rowid)
+    tried_one way clauses terms width source it one =
+        let done = concluded (InsertOr at way (Values terms width) clauses) it
         (λ w. (w.tally, w.changed, w.sound, w.counted, w.last_rowid)) in
         let rows = went done.1 in
         let counter = went rows.2 in
@@ -272,11 +278,74 @@ module _ (s : Schema) (plain : is_plain s ≡ true) (d : Descriptor) where
         (append-nil params) ∙ one in
         let each =
         went (subst
-        (λ rs. TriesEach task Abort clauses rs (count_of counter.0) (nothing db) (Ok tries.0)) all tries.1) in
-        let row = with_rowid Chosen (db d.tree) (cast_row (table_of d) source) in (
-          subst (Tried s d target update params row db)
-              (sym (done.2 ∙ ap trees_of (same_value last.2) ∙ ap under (same_value last.1)
-              ∙ ap (λ (p : Written × ℤ). trees_of p.0) (same_value each.2)))
-              (tried target update row each.0 each.1),
+        (λ rs. TriesEach task way clauses rs (count_of counter.0) (nothing db) (Ok tries.0)) all tries.1) in
+        let is : done.0 ≡ joined (nothing db) each.0 =
+        same_value last.2 ∙ ap (λ t. record tries.0.0 { trees = t }) (same_value last.1)
+        ∙ ap (λ (p : Written × ℤ). p.0) (same_value each.2) in (
+          each.0,
+          each.1,
+          done.2 ∙ ap trees_of is,
           done.3,
+          done.4 ∙ ap (λ (w : Written). length w.rows) is,
+          done.5 ∙ ap (λ (w : Written). unwrap_or w.last old.last_rowid) is,
         )
+
+    -- INSERT .. ON CONFLICT of one row
+    pub upsert_wrote : (target : Option (List ℕ)) (update : Option Query) (terms : List Term) (width : ℕ)
+        (source : Row)
+        → IsWrite s text (InsertOr at Abort (Values terms width) (clause_of target update ∷ []))
+        → value_rows params width (length terms / width) terms ≡ source ∷ []
+        → Tried s d target update params (with_rowid Chosen (db d.tree) (cast_row (table_of d) source)) db
+        new.now × IsDatabase new.now
+    upsert_wrote target update terms width source it one =
+        let row = with_rowid Chosen (db d.tree) (cast_row (table_of d) source) in
+        let did = tried_one Abort (clause_of target update ∷ []) terms width source it one in
+        let now = tried target update row did.0 did.1 in
+        (subst (Tried s d target update params row db) (sym did.2) now, did.3)
+
+    -- a row that came, or was passed over
+    let_in : (row : Row) (one : Written) → Upserts task Ignore row db [] (Ok one)
+        → (Puts task row db (Ok one)) ⊎ (one ≡ nothing db)
+    let_in row one ([], are, put) = inl put
+    let_in row one (x ∷ more, are, passed) = inr (same_value passed)
+
+    came : (row : Row) (one : Written) → Tries task Ignore [] row db (Ok one)
+        → (Puts task row db (Ok one)) ⊎ (one ≡ nothing db)
+    came row one (inl refused) = absurd (let e = refused.1 in cc)
+    came row one (inr (None, judged, h)) = let_in row one h
+    came row one (inr (Some why, judged, h)) = passed (passes_over Ignore why) h
+      where
+        passed : (b : Bool)
+            → MatchBool b (Gives (nothing db) (Ok one)) (Refuses {A = Written} (edit_error why) (Ok one))
+            → (Puts task row db (Ok one)) ⊎ (one ≡ nothing db)
+        passed true h = inr (same_value h)
+        passed false h = absurd (let e : Ok one ≡ Err _ = h in cc)
+
+    -- INSERT OR IGNORE of one row
+    pub ignore_wrote : (terms : List Term) (width : ℕ) (source : Row)
+        → IsWrite s text (InsertOr at Ignore (Values terms width) [])
+        → value_rows params width (length terms / width) terms ≡ source ∷ []
+        → Came s d (with_rowid Chosen (db d.tree) (cast_row (table_of d) source)) db new count
+        × IsDatabase new.now
+    ignore_wrote terms width source it one =
+        let row = with_rowid Chosen (db d.tree) (cast_row (table_of d) source) in
+        let did = tried_one Ignore [] terms width source it one in
+        elim (came row did.0 did.1) as (λ _. Came s d row db new count × IsDatabase new.now) [
+          | inl put ↦
+              let is = same_value (went put).2 in (
+                inl (
+                  subst (Wrote s d.tree [] (cast_row (table_of d) row ∷ []) db) (sym did.2)
+                      (puts row did.0 put),
+                  did.4 ∙ ap (λ (w : Written). length w.rows) is,
+                  did.5 ∙ ap (λ (w : Written). unwrap_or (option_or w.last None) old.last_rowid) is,
+                ),
+                did.3,
+              )
+          | inr none ↦ (
+            inr (
+              subst (Wrote s d.tree [] [] db) (sym did.2) (nothing_wrote did.0 none),
+              did.4 ∙ ap (λ (w : Written). length w.rows) none,
+            ),
+            did.3,
+          )
+        ]

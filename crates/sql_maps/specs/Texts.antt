@@ -16,7 +16,7 @@ use Rattle.sqlite.specs.Table.{Table}
 use Rattle.sqlite.specs.Term.{Term, lit, col, op2}
 use Rattle.sqlite.specs.declared.types.Value.TheVariants.{Null, Int}
 use Rattle.sqlite_schema.specs.declared.command.Command.{Command}
-use Rattle.sqlite_schema.specs.declared.command.Conflict.TheVariants.{Abort}
+use Rattle.sqlite_schema.specs.declared.command.Conflict.TheVariants.{Abort, Ignore}
 use Rattle.sqlite_schema.specs.declared.schema.Index.{Index}
 use Rattle.sqlite_sql.specs.declared.aggregate.AggregateOp.TheVariants.{CountRows}
 use Rattle.sqlite_sql.specs.declared.ops.BinaryOp.TheVariants.{Compare}
@@ -77,6 +77,10 @@ by_key n = map (λ i. eq (col 1 (suc i)) (col 0 i)) (below n)
 abbrev pub by_id : ℕ → List Term
 by_id place = eq (col 1 0) (col 0 place) ∷ []
 
+-- the rowid is this parameter, and the first n columns are the first n parameters
+abbrev pub by_both : ℕ → ℕ → List Term
+by_both place n = eq (col 1 0) (col 0 place) ∷ by_key n
+
 -- an insert of one row, which fails where its key is there
 abbrev pub insert : ℕ → ℕ → List Term → Command
 insert place width terms = Insert place (Values terms width)
@@ -101,10 +105,9 @@ upsert place tree n width terms at set =
           Some (record { lets = []; body = met_update tree at set });
     } ∷ [])
 
--- one that leaves the row with its key
-abbrev pub insert_or_nothing : ℕ → ℕ → ℕ → List Term → Command
-insert_or_nothing place n width terms = InsertOr place Abort (Values terms width)
-    (record { target = Some (columns_to n); update = None } ∷ [])
+-- an insert of one row, which leaves the row that is in its way
+abbrev pub insert_or_ignore : ℕ → ℕ → List Term → Command
+insert_or_ignore place width terms = InsertOr place Ignore (Values terms width) []
 
 -- an update of the rows that pass, which keep their rowids
 abbrev pub update : ℕ → ℕ → List Term → List Term → Command

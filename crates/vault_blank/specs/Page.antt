@@ -1,4 +1,4 @@
--- The bytes of a database without a table, in one page of 1024 bytes, by SQLite's file format
+-- The bytes of a database without a table, in one page of 512 bytes, by SQLite's file format
 -- (https://www.sqlite.org/fileformat2.html): the database header of its section 1.3, then the header of a
 -- b-tree page of its section 1.6, and nothing but zeros behind them.
 use Rattle.std.specs.Prelude.{ℕ, zero, suc, ◌/◌, ◌%◌, ◌^◌, List, [], ◌∷◌, ◌++◌, codes}
@@ -77,11 +77,11 @@ leaf_header header =
     ++ big 2 header.cell_content
     ++ big 1 header.fragmented_bytes
 
--- One page of 1024 bytes with a write-ahead log (2), in UTF-8 (1). The payload fractions and the schema
+-- One page of 512 bytes with a write-ahead log (2), in UTF-8 (1). The payload fractions and the schema
 -- format are those that the format wants, the application is "VAUL", and the version 3.45.0.
 abbrev pub blank_fields : DatabaseHeader
 blank_fields = record {
-  page_size = 1024;
+  page_size = 512;
   write_version = 2;
   read_version = 2;
   reserved_space = 0;
@@ -110,10 +110,10 @@ blank_leaf = record {
   page_type = 13;
   first_freeblock = 0;
   cells = 0;
-  cell_content = 1024;
+  cell_content = 512;
   fragmented_bytes = 0;
 }
 
--- the page: 100 bytes, 8 bytes, and 916 zeros
+-- the page: 100 bytes, 8 bytes, and 404 zeros
 abbrev pub blank_database : List ℕ
-blank_database = database_header blank_fields ++ leaf_header blank_leaf ++ repeat 916 (0 ∷ [])
+blank_database = database_header blank_fields ++ leaf_header blank_leaf ++ repeat 404 (0 ∷ [])

@@ -7,7 +7,7 @@ use std::io;
 use std::io::Write;
 
 /// A small page, since a commit writes whole pages and the rows here are short.
-const PAGE_SIZE: u16 = 1024;
+const PAGE_SIZE: u16 = 512;
 
 /// The changes are kept in a write-ahead log, and not in a rollback journal.
 const WRITE_AHEAD_LOG: u8 = 2;
@@ -36,12 +36,12 @@ fn put(page: &mut [u8], at: usize, bytes: &[u8])
 }
 
 /// The one page of a database without a table. What isn't put is 0.
-pub fn blank_page() -> [u8; 1024]
+pub fn blank_page() -> [u8; 512]
     // these are the bytes of a database without a table
     ensures bytes { result ≡ blank_database }
-    ensures length { length result ≡ 1024 }
+    ensures length { length result ≡ 512 }
 {
-    let mut page = [0; 1024];
+    let mut page = [0; 512];
     put(&mut page, 0, b"SQLite format 3\0");
     put(&mut page, 16, &PAGE_SIZE.to_be_bytes());
     put(&mut page, 18, &[WRITE_AHEAD_LOG, WRITE_AHEAD_LOG]); // to write it, and to read it

@@ -1,14 +1,15 @@
 -- What queries show of cards and entries in a version that has them.
-use Rattle.std.proofs.Common.{◌≡◌, ◌&&◌, ℤ, pos, List, [], ◌∷◌, Option, inl, inr}
-use Rattle.std.proofs.Common.{is_eq, Bool, true, refl, ap}
+use Rattle.std.proofs.Common.{◌≡◌, ◌&&◌, ◌∙◌, ℤ, pos, List, [], ◌∷◌, Option, Some, None, inl, inr}
+use Rattle.std.proofs.Common.{is_eq, Bool, true, refl, sym, ap, int_cmp}
 use Rattle.std.proofs.lemmas.Bool.{and_parts}
 use Rattle.std.specs.Cmp.{tied_itself}
+use Rattle.sqlite.specs.Effect.{Database}
 use Rattle.sqlite.specs.Order.{Row}
 use Rattle.sqlite.specs.Schema.{Schema}
 use Rattle.sqlite.specs.State.{State, Shown}
 use Rattle.sqlite.specs.declared.types.Value.TheVariants.{Int, Text}
 use Rattle.sqlite.specs.Term.{col}
-use Rattle.sql_maps.specs.Rows.{AreRowsById, one_of}
+use Rattle.sql_maps.specs.Rows.{AreRowsById, one_of, put}
 use Rattle.sql_maps.specs.Schema.{table_of}
 use Rattle.sql_maps.specs.States.{Claim, Stands}
 use Rattle.sql_maps.specs.Texts.{IsQuery, query_of}
@@ -27,8 +28,10 @@ use Rattle.vault_schema.specs.declared.v2.TheConstants.{FIND_CARD, FIND_ENTRY, F
 use Rattle.vault_schema.specs.declared.version.Version.{Version}
 use Rattle.vault_schema.proofs.TablesBehind.{behind_two, cards_guarded, indexes_behind_two}
 use Rattle.vault_schema.proofs.ByTable.{second_claims}
+use Rattle.vault_schema.proofs.Version2.Joining.{put_far, put_id}
 use Rattle.vault_schema.proofs.Version2.Texts.{card_is, card_tests, entry_is, uses_is}
-use Rattle.vault_cards.specs.Cards.{ShowsCard, card_shown, uses_column}
+use Rattle.vault_cards.specs.Calls.{HasTables}
+use Rattle.vault_cards.specs.Cards.{HasNoCard, ShowsCard, card_made, card_shown, uses_column}
 use Rattle.vault_cards.proofs.Places.{HasCards, card_table, cards_where, pointing_table, said_second, second}
 
 abbrev is_wanted : Bytes → Bytes → ℤ → Card → Bool
@@ -104,3 +107,20 @@ module _ (v : Version) (t : Tables) (old new : State) (it : Stands (schema_of v)
   shows_pointing key shown =
       look_up old new stands _ _ rows shown (pointing_table v) t.pointing (λ are. are) _
       (entry_is (behind_two v) (indexes_behind_two v)) key refl pointing_columns (λ n x. refl)
+
+-- a card that came is the only one of its number, so the number had none before
+pub first_of_number : (v : Version) (t : Tables) (new : State) (base : Database) (id : ℤ) (m number : Bytes)
+    → t.cards id ≡ None
+    → HasTables v new base (record t { cards = put int_cmp t.cards id (Some (card_made m number)) })
+    → HasNoCard t.cards m number
+first_of_number v t new base id m number free w other c is =
+    let has = cards_where v _ new.now.trees w.stands.rows in
+    let it = said_second v has (λ s claims. Stands s claims new.now)
+    (record t { cards = put int_cmp t.cards id (Some (card_made m number)) }) w.stands in
+    let far : other ≡ id → ⊥ = λ same. (let clash : Some c ≡ None = sym is.there ∙ ap t.cards same ∙ free in
+    cc) in
+    far (unique_id (card_table v) new.now it.schema it.sound it.rows.1.1.1.1.1.1.0 (2 ∷ 3 ∷ [])
+    (cards_guarded v) other id c (card_made m number)
+    (put_far t.cards id (Some (card_made m number)) other far ∙ is.there)
+    (put_id t.cards id (Some (card_made m number)))
+    ((m, ap Text is.merchant, refl), ((number, ap Text is.number, refl), tt)))

@@ -1,11 +1,12 @@
 -- What each statement makes of the tables of a version that has cards, inside a transaction.
-use Rattle.std.proofs.Common.{◌≡◌, ℤ, ℕ, pos, List, [], ◌∷◌, ◌++◌, Some, None, refl, int_cmp, subst, sym}
+use Rattle.std.proofs.Common.{◌≡◌, ◌⊎◌, inl, inr, ◌∙◌, ℤ, ℕ, pos, List, [], ◌∷◌, ◌++◌, Some, None, refl}
+use Rattle.std.proofs.Common.{int_cmp, subst, sym}
 use Rattle.sqlite.specs.Effect.{Database}
 use Rattle.sqlite.specs.Order.{Row}
 use Rattle.sqlite.specs.State.{State}
 use Rattle.sqlite.specs.declared.types.Value.TheVariants.{Int, Text}
 use Rattle.sql_maps.specs.Rows.{put}
-use Rattle.sql_maps.proofs.ById.{change_id, drop_id, insert_id}
+use Rattle.sql_maps.proofs.ById.{change_id, drop_id, try_id}
 use Rattle.sql_maps.proofs.Statements.{Ran, insert_in, upsert_in}
 use Rattle.vault_core.specs.Keys.{Bytes, entry_cmp}
 use Rattle.vault_schema.specs.Version1.Rows.{entry_key}
@@ -20,8 +21,8 @@ use Rattle.vault_schema.proofs.Version2.Texts.{add_card_is, add_entry_is, drop_c
 use Rattle.vault_schema.proofs.Version2.Texts.{set_uses_is, uses_set}
 use Rattle.vault_cards.specs.Calls.{HasTables}
 use Rattle.vault_cards.specs.Cards.{card_made}
-use Rattle.vault_cards.proofs.Places.{HasCards, card_table, cards_where, pointing_table, ran_second}
-use Rattle.vault_cards.proofs.Places.{tables_of_second}
+use Rattle.vault_cards.proofs.Places.{HasCards, card_table, cards_where, counted_second, pointing_table}
+use Rattle.vault_cards.proofs.Places.{ran_second, tables_of_second}
 
 -- the card with this id came, which wasn't there
 abbrev pub HasAdded : Version → Tables → Database → State → Bytes → Bytes → ℤ → Type 0
@@ -35,15 +36,26 @@ module _ (t : Tables) {base : Database} {old new : State} (v : Version) where
       → HasCards v
   had run = cards_where v t old.now.trees run.within.stands.rows
 
-  -- the id of the new card is the last rowid
-  pub card_added : (m number : Bytes)
-      → Ran (schema_of v) (claims_of v t) base old new ADD_CARD.now (Text m ∷ Text number ∷ [])
-      → HasAdded v t base new m number new.last_rowid
-  card_added m number run =
+  -- a card came, whose id is the last rowid, or nothing changed
+  pub card_tried : (m number : Bytes)
+      → (run : Ran (schema_of v) (claims_of v t) base old new ADD_CARD.now (Text m ∷ Text number ∷ []))
+      → ((run.count ≡ 1) × HasAdded v t base new m number new.last_rowid)
+      ⊎ ((run.count ≡ 0) × HasTables v new base t)
+  card_tried m number run =
       let has = had run in
-      let it = insert_id (plain_second v has) (ran_second v has t run) (card_table v) t.cards (λ are. are)
-      (card_made m number) 5 _ (add_card_is (behind_two v) (indexes_behind_two v)) refl in
-      subst (HasAdded v t base new m number) (sym it.2) (it.0, tables_of_second v has _ it.1)
+      let of = counted_second v has t run in
+      elim (try_id (plain_second v has) of.0 (card_table v) t.cards (λ are. are) (card_made m number) 5 _
+      (add_card_is (behind_two v) (indexes_behind_two v)) refl)
+      as (λ _. ((run.count ≡ 1) × HasAdded v t base new m number new.last_rowid)
+      ⊎ ((run.count ≡ 0) × HasTables v new base t)) [
+        | inl came ↦
+            inl (
+              sym of.1 ∙ came.0,
+              subst (HasAdded v t base new m number) (sym came.3)
+                  (came.1, tables_of_second v has _ came.2),
+            )
+        | inr still ↦ inr (sym of.1 ∙ still.0, tables_of_second v has t still.1)
+      ]
 
   pub card_used : (id : ℤ) (c : Card) → t.cards id ≡ Some c → (uses : ℕ)
       → Ran (schema_of v) (claims_of v t) base old new SET_USES.now (Int id ∷ Int (pos uses) ∷ [])

@@ -1,20 +1,20 @@
 //! The rows of cards: each number once a merchant, and how many entries point at it.
 ghost use Rattle.std.specs.Ordering.{int_cmp};
-ghost use Rattle.std.specs.Prelude.{◌≡◌, ◌<◌, ◌^◌, ◌+◌, ℤ, Some, None};
+ghost use Rattle.std.specs.Prelude.{◌≡◌, ◌<◌, ◌^◌, ◌+◌, ℤ, Some};
 ghost use Rattle.sql_maps.specs.Rows.{one_of, put};
 ghost use Rattle.sql_maps.specs.Transactions.{Inside};
 ghost use Rattle.vault_schema.specs.declared.v2.Card.{Card};
 ghost use Rattle.vault_cards.specs.Calls.{TellsInEach, TurnsInEach};
-ghost use Rattle.vault_cards.specs.Cards.{HasNoCard, IsAdded, IsGone, OwesNoMore, OwesNothing};
+ghost use Rattle.vault_cards.specs.Cards.{IsAddedOnce, IsGone, OwesNoMore, OwesNothing};
 ghost use Rattle.vault_cards.specs.Cards.{OwesNumber, OwesUse};
-ghost use Rattle.vault_cards.specs.Cards.{ShowsCard, card_made, card_shown, uses_column};
+ghost use Rattle.vault_cards.specs.Cards.{ShowsCard, card_shown, uses_column};
 
-use crate::parameters::GREATEST;
-use sql_maps::run::{rows_in, step};
+use sql_maps::run::{change, rows_in, step};
 use sql_stored::fault::StoreFault;
 use sqlite::{Alter, Error, Row, Transaction, params};
 use vault_pan::pan::Pan;
 use vault_schema::v2::{ADD_CARD, DROP_CARD, FIND_CARD, FIND_USES, SET_USES};
+use vault_tables::columns::GREATEST;
 
 /// The row of a merchant's card with a number, inside a transaction.
 fn card_rows_in<S: Alter>(
@@ -55,13 +55,20 @@ fn drop_card<S: Alter>(tx: &mut Transaction<'_, S>, id: i64) -> Result<(), Error
     step(tx, DROP_CARD, params![id])
 }
 
-/// Makes a card that is used once, and answers its id.
-fn put_card<S: Alter>(tx: &mut Transaction<'_, S>, m: &str, number: &str) -> Result<i64, Error>
+/// Makes the card of a merchant's number, used once, unless it is there, and answers the new card's id.
+fn add_card<S: Alter>(
+    tx: &mut Transaction<'_, S>,
+    m: &str,
+    number: &str,
+) -> Result<Option<i64>, Error>
     ensures { Inside S.Store tx.old tx.new (TurnsInEach result
-        (λ t. Unit {0}) (λ id t new. IsAdded t new id m.now number.now)) }
+        (λ t. Unit {0}) (λ card t new. IsAddedOnce t new card m.now number.now)) }
 {
-    step(tx, ADD_CARD, params![m, number])?;
-    Ok(tx.last_insert_rowid())
+    let changed = change(tx, ADD_CARD, params![m, number])?;
+    if changed == 0 {
+        return Ok(None);
+    }
+    Ok(Some(tx.last_insert_rowid()))
 }
 
 /// Uses a card once more, whose row this is.
@@ -80,19 +87,22 @@ fn use_again<S: Alter>(tx: &mut Transaction<'_, S>, row: &Row) -> Result<i64, St
     Ok(id)
 }
 
-/// Makes the card of a merchant's number, used once.
-fn make_card<S: Alter>(
+/// Uses the card of a merchant's number, which is there, once more.
+fn use_known<S: Alter>(
     tx: &mut Transaction<'_, S>,
     m: &str,
     number: &str,
 ) -> Result<i64, StoreFault>
-    // where the number has no card, with Ok on an honest disk the card with this id came, used once
+    // with Ok, on an honest disk, only cards change: the card with this id is the number's, and a use of it
+    // is owed
     ensures { Inside S.Store tx.old tx.new (TurnsInEach result
-        (λ t. HasNoCard t.cards m.now number.now)
-        (λ id t new. (t.cards id ≡ None)
-        × (new ≡ record t { cards = put int_cmp t.cards id (Some (card_made m.now number.now)) }))) }
+        (λ t. Unit {0}) (λ id t new. OwesUse t new id m.now number.now)) }
 {
-    Ok(put_card(tx, m, number)?)
+    let rows = card_rows_in(tx, m, number)?;
+    match rows.first() {
+        Some(row) => use_again(tx, row),
+        None => Err(StoreFault::Store),
+    }
 }
 
 /// Uses the card of a merchant's number once more, and makes it where it isn't there.
@@ -106,10 +116,9 @@ pub(crate) fn use_card<S: Alter>(
     ensures { Inside S.Store tx.old tx.new (TurnsInEach result
         (λ t. Unit {0}) (λ id t new. OwesUse t new id m.now number.now)) }
 {
-    let rows = card_rows_in(tx, m, number)?;
-    match rows.first() {
-        Some(row) => use_again(tx, row),
-        None => make_card(tx, m, number),
+    match add_card(tx, m, number)? {
+        Some(id) => Ok(id),
+        None => use_known(tx, m, number),
     }
 }
 

@@ -2,7 +2,4 @@
 #![tactic(auto)]
 
 mod cards;
-pub mod columns;
-pub mod parameters;
 pub mod pointing;
-pub mod text;

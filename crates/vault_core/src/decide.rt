@@ -1,10 +1,11 @@
 //! What a command answers, and what it changes.
 ghost use Rattle.std.specs.Prelude.{◌≡◌};
-ghost use Rattle.vault_core.specs.Changes.{Decides, FitsVault, RefusesQuietly, WritesNothing, no_changes};
+ghost use Rattle.vault_refusal.specs.Refusal.{number_of};
+ghost use Rattle.vault_core.specs.Changes.{Decides, FitsVault, RefusesQuietly, WritesNothing};
+ghost use Rattle.vault_core.specs.Changes.{moved_lives, no_changes};
 ghost use Rattle.vault_core.specs.Parts.{command_with};
 ghost use Rattle.vault_core.specs.Proper.{HasLivesInRange, IsProper};
 
-mod answer;
 mod merchant;
 mod redeem;
 mod retire;
@@ -13,14 +14,18 @@ mod token;
 
 use crate::changes::Changes;
 use crate::command::Command;
+use crate::moment::Moment;
+use crate::name::MerchantId;
 use crate::parts::Parts;
 use crate::reply::Reply;
+use crate::row::{Lives, MerchantRow};
 use crate::window::Window;
 use merchant::{grant, set_merchant, withdraw};
 use redeem::detokenize;
 use retire::{purge, revoke};
 use show::{audit, view};
 use token::tokenize;
+use vault_refusal::refusal::Refusal;
 
 /// The answer to a command and what it changes, from the rows that it needs.
 ///
@@ -69,4 +74,25 @@ pub fn settle(w: &Window, parts: &Parts) -> (Reply, Changes)
         Parts::Purge(asked) => purge(w, asked),
         Parts::Audit(caller, merchant, now) => audit(w, *caller, *merchant, *now),
     }
+}
+
+/// A refusal, which changes nothing.
+fn refused(refusal: Refusal) -> (Reply, Changes)
+    ensures { result ≡ (Reply.Refused (number_of refusal), no_changes) }
+{
+    (Reply::Refused(refusal.number()), Changes::none())
+}
+
+/// The merchant's moment moves.
+fn moved(merchant: MerchantId, row: &MerchantRow, now: Moment) -> (MerchantId, Lives)
+    ensures { result ≡ moved_lives merchant row.now now }
+{
+    let moment = row.moment.later(now);
+    (
+        merchant,
+        Lives {
+            moment,
+            ..row.lives()
+        },
+    )
 }

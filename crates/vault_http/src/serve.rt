@@ -1,5 +1,6 @@
 //! The messages of a connection answered, all that a piece completed before the next piece is read.
-ghost use Rattle.std.specs.Prelude.{◌≡◌, ◌+◌, [], true, false, is_err, IfErr, IfOk, OnOk, MatchResult, length};
+ghost use Rattle.std.specs.Prelude.{◌≡◌, ◌+◌, [], true, false, is_err, IfErr, IfOk, OnOk, MatchResult};
+ghost use Rattle.std.specs.Prelude.{length, ◌↔◌, Bool, None};
 ghost use Rattle.std.specs.Io.{ReadsAtMost};
 ghost use Rattle.std.specs.Io.KnownBytes.{ReadConsumes};
 ghost use Rattle.vault_store.specs.Applied.{is_broken, tables_of};
@@ -110,7 +111,20 @@ fn refuse<W: Write>(
     Ok(())
 }
 
-/// Reads the next piece. Before that the reader is told whether it stands between two messages.
+/// Tells the reader whether it stands between two messages: no byte of the next one has come.
+fn place<R: Read, G: Guide<R>>(guide: &G, intake: &Intake, reader: &mut Watched<R>)
+    // where the bytes had no fault, it was told that it does exactly where nothing of a message has come
+    ensures place { intake.now.fault ≡ None → (between : Bool) × G.told (inner_of reader.new) between
+        × ((between ≡ true) ↔ (intake.now.rest ≡ [])) }
+    // what the reader underneath has left to give stays
+    ensures bytes { R.remaining (inner_of reader.new) ≡ R.remaining (inner_of reader.old) }
+    // whether a call failed stays
+    ensures flag { is_stopped reader.new ≡ is_stopped reader.old }
+{
+    reader.tell(guide, intake.rest_len() == 0);
+}
+
+/// Reads the next piece, once the reader was told where it stands.
 fn next_piece<R: Read, G: Guide<R>>(
     guide: &G,
     intake: &Intake,
@@ -121,14 +135,15 @@ fn next_piece<R: Read, G: Guide<R>>(
     ensures bound { ReadsAtMost result piece.new }
     // the bytes that are read are those that the reader underneath gave up, where they are known; with Err it
     // gave up none
-    ensures bytes { ReadConsumes (R.remaining (inner_of reader.old)) (R.remaining (inner_of reader.new)) result
+    ensures bytes { ReadConsumes (R.remaining (inner_of reader.old)) (R.remaining (inner_of reader.new))
+        result
         piece.new }
     // it has failed exactly after an Err
     ensures flag { is_stopped reader.new ≡ is_err result }
     // with Ok, it hadn't failed before
     ensures ok { OnOk result (is_stopped reader.old ≡ false) }
 {
-    reader.tell(guide, intake.rest_len() == 0);
+    place(guide, intake, reader);
     reader.read(piece)
 }
 

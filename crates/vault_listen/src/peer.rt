@@ -67,7 +67,8 @@ impl<S: Stream, C: Clock + Drop> Read for PeerReader<S, C> {
         ensures bound { ReadsAtMost result buf.new }
         // the bytes that are read are those that the stream gave up, where they are known; with Err it gave
         // up none
-        ensures bytes { ReadConsumes (S.remaining self.old.stream) (S.remaining self.new.stream) result buf.new }
+        ensures bytes { ReadConsumes (S.remaining self.old.stream) (S.remaining self.new.stream) result
+            buf.new }
         // it gives way only between two messages, where its peer has sent nothing and another one waits, and
         // with an Err
         ensures way { self.old.gave_way ≡ false → self.new.gave_way ≡ true
@@ -90,6 +91,8 @@ impl<S: Stream, C: Clock + Drop> Read for PeerReader<S, C> {
 }
 
 impl<S: Stream, C: Clock + Drop> Placed for PeerReader<S, C> {
+    ghost stands = { λ reader is_between. reader.is_between ≡ is_between };
+
     fn stand(&mut self, is_between: bool)
         // what the stream has left to give stays
         ensures bytes { S.remaining self.new.stream ≡ S.remaining self.old.stream }

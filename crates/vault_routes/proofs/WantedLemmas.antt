@@ -118,9 +118,48 @@ pub order_refused : {X : Type 0} (p : Parts) (goes : Order → Wanted X → Type
     → WantsOrder p (λ b s. s ≡ Ok b) (Err m) → WantsOrder p goes (Err m)
 order_refused p goes m (inl (t, is, inl (q, inl (ts, a, inl (n, inl (k, inl (u, w, same))))))) = absurd (cc)
 order_refused p goes m (inl (t, is, inl (q, inl (ts, a, inl (n, inl (k, inr (none, same))))))) =
-    let told : m ≡ refusal.BadUse = cc in inl (t, is, inl (q, inl (ts, a, inl (n, inl (k, inr (none, ap Err told))))))
+    let told : m ≡ refusal.BadUse = cc in inl (
+      t,
+      is,
+      inl (
+        q,
+        inl (
+          ts,
+          a,
+          inl (
+            n,
+            inl (
+              k,
+              inr (
+                none,
+                ap
+                    Err told,
+              ),
+            ),
+          ),
+        ),
+      ),
+    )
 order_refused p goes m (inl (t, is, inl (q, inl (ts, a, inl (n, inr (none, same)))))) =
-    let told : m ≡ refusal.BadCheck = cc in inl (t, is, inl (q, inl (ts, a, inl (n, inr (none, ap Err told)))))
+    let told : m ≡ refusal.BadCheck = cc in inl (
+      t,
+      is,
+      inl (
+        q,
+        inl (
+          ts,
+          a,
+          inl (
+            n,
+            inr (
+              none,
+              ap Err
+                  told,
+            ),
+          ),
+        ),
+      ),
+    )
 order_refused p goes m (inl (t, is, inl (q, inl (ts, a, inr (none, same))))) =
     let told : m ≡ refusal.BadNumber = cc in inl (t, is, inl (q, inl (ts, a, inr (none, ap Err told))))
 order_refused p goes m (inl (t, is, inl (q, inr (none, same)))) =

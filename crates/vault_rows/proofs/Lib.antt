@@ -8,5 +8,6 @@ pub mod Lookups
 pub mod Making
 pub mod PointingRow
 pub mod Raised
+pub mod RaisedKnown
 pub mod ShownCards
 pub mod Statements

@@ -8,7 +8,7 @@ use Rattle.sqlite.specs.declared.types.Value.TheVariants.{Int, Text}
 use Rattle.sqlite_sql.specs.declared.ops.ArithOp.TheVariants.{Add}
 use Rattle.sqlite_sql.specs.declared.ops.BinaryOp.TheVariants.{Arith}
 use Rattle.sql_maps.specs.Rows.{put}
-use Rattle.sql_maps.proofs.Statements.{Ran, change_in, insert_in, plus_one}
+use Rattle.sql_maps.proofs.Statements.{Ran, change_at, change_in, insert_in, plus_one}
 use Rattle.vault_schema.proofs.Newest.{behind_first, indexes_behind_first, count_table}
 use Rattle.vault_schema.proofs.Newest.{record_table}
 use Rattle.vault_core.specs.Keys.{Bytes, record_cmp}
@@ -17,8 +17,8 @@ use Rattle.vault_schema.specs.Versions.{Tables}
 use Rattle.vault_schema.specs.Stands.{newest_claims}
 use Rattle.vault_schema.specs.Version1.Rows.{numbered_key, count_row}
 use Rattle.vault_schema.specs.Version1.Rows.{record_columns}
-use Rattle.vault_schema.specs.declared.v1.TheConstants.{RAISE_COUNT, ADD_COUNT, ADD_RECORD}
-use Rattle.vault_schema.proofs.Version1.Texts.{raise_is, add_count_is, add_record_is}
+use Rattle.vault_schema.specs.declared.v1.TheConstants.{RAISE_COUNT, SET_COUNT, ADD_COUNT, ADD_RECORD}
+use Rattle.vault_schema.proofs.Version1.Texts.{raise_is, set_count_is, add_count_is, add_record_is}
 use Rattle.vault_cards.specs.Calls.{HasTables}
 use Rattle.vault_schema.specs.Schema.{newest_schema}
 use Rattle.vault_schema.specs.Stands.{newest}
@@ -42,6 +42,16 @@ module _ {t : Tables} {base : Database} {old new : State} where
           ap (λ v. Int n ∷ Int n ∷ Text at.0 ∷ Int (pos at.1) ∷ v ∷ [])
           (plus_one y (subst (λ (o : Option ℕ). unwrap_or o 0 + 1 < 2 ^ 63) is room))
           ∙ ap (λ (o : Option ℕ). Int n ∷ Int n ∷ count_row at (unwrap_or o 0 + 1)) (sym is)
+
+  pub count_set : (at : Bytes × ℕ) (total : ℕ) (rowid : ℤ)
+      → (run : Ran newest_schema (newest_claims t) base old new SET_COUNT.now
+      (Text at.0 ∷ Int (pos at.1) ∷ Int (pos total) ∷ Int rowid ∷ []))
+      → ((run.count ≡ 0) × HasTables newest new base t)
+      ⊎ ((run.count ≡ 1)
+      × HasTables newest new base (record t { counts = put record_cmp t.counts at (Some total) }))
+  count_set at total rowid run =
+      change_at refl run count_table t.counts (λ are. are) at total _ 3 rowid _
+      (set_count_is behind_first indexes_behind_first) refl refl (λ n y is. refl)
 
   pub count_added : (at : Bytes × ℕ) → t.counts at ≡ None
       → Ran newest_schema (newest_claims t) base old new ADD_COUNT.now (Text at.0 ∷ Int (pos at.1) ∷ [])

@@ -60,6 +60,10 @@ written h ch = record {
 abbrev pub HasRoomAt : (Bytes × ℕ → Option ℕ) → Bytes × ℕ → Type 0
 HasRoomAt held key = unwrap_or (held key) 0 + 1 < 2 ^ 63
 
+-- a count has this total
+abbrev pub IsTotal : (Bytes × ℕ → Option ℕ) → Bytes × ℕ → ℕ → Type 0
+IsTotal held key total = unwrap_or (held key) 0 ≡ total
+
 -- the count that goes up has room
 abbrev pub HasRoom : (Bytes × ℕ → Option ℕ) → Option (Bytes × Lives) → Option Count → Type 0
 HasRoom held None count = Unit {0}

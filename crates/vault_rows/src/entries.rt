@@ -24,8 +24,6 @@ use crate::columns::{token_in, usage_in};
 use sql_maps::run::rows_of;
 use sql_stored::fault::StoreFault;
 use sqlite::{Alter, Connection, Error, Row, params};
-use vault_cards::columns::card_in;
-use vault_cards::text::merchant_text;
 use vault_core::limit::MOST_TOKENS;
 use vault_core::moment::Moment;
 use vault_core::name::MerchantId;
@@ -33,7 +31,7 @@ use vault_core::row::Entry;
 use vault_pan::pan::Pan;
 use vault_pan::token::Token;
 use vault_schema::v2::{FIND_CURRENT, FIND_DEAD, FIND_ENTRY, Pointing};
-use vault_tables::columns::{moment_in, moment_or_null_in};
+use vault_tables::columns::{card_in, merchant_text, moment_in, moment_or_null_in};
 
 /// The row of an entry, which points at a card.
 fn pointing_rows<S: Alter>(

@@ -1,6 +1,7 @@
 //! The rows of merchants and their counts.
 ghost use Rattle.std.specs.FinMap as map;
 ghost use Rattle.std.specs.Prelude.{◌≡◌, ◌↔◌, ◌<◌, ◌^◌, [], ◌∷◌, None, Some, IfOk, IsTrue, option_map};
+ghost use Rattle.std.specs.Prelude.{if◌then◌else◌};
 ghost use Rattle.vault_core.specs.Numbers.{count_number};
 ghost use Rattle.vault_core.specs.Sound.{Sound};
 ghost use Rattle.vault_core.specs.Vault.{merchant_at};
@@ -15,18 +16,25 @@ ghost use Rattle.vault_core.specs.Lives.{lives_in};
 ghost use Rattle.sql_maps.specs.Rows.{put};
 ghost use Rattle.sql_maps.specs.Transactions.{Inside, Between};
 ghost use Rattle.vault_cards.specs.Calls.{Makes, TellsInside, Turns};
-ghost use Rattle.vault_rows.specs.Written.{HasRoomAt, IsRaised, raise_at};
+ghost use Rattle.vault_rows.specs.Written.{HasRoomAt, IsRaised, IsTotal, raise_at};
 
 use sql_maps::run::{change, rows_of, step};
 use sql_stored::fault::StoreFault;
 use sqlite::{Alter, Connection, Error, Row, Transaction, params};
-use vault_cards::text::merchant_text;
 use vault_core::changes::Count;
 use vault_core::moment::Moment;
 use vault_core::name::MerchantId;
 use vault_core::row::{Lives, MerchantRow};
-use vault_schema::v1::{ADD_COUNT, FIND_COUNTS, RAISE_COUNT};
+use vault_schema::v1::{ADD_COUNT, FIND_COUNT_ID, FIND_COUNTS, RAISE_COUNT, SET_COUNT};
+use vault_tables::columns::{GREATEST, merchant_text};
 use vault_tables::merchants::{self as table, COUNT_MERCHANTS, READ_MERCHANTS};
+
+/// What is known of a count: its total, and the rowid that its row may have.
+#[derive(Clone, Copy)]
+pub struct KnownCount {
+    pub total: u64,
+    pub rowid: i64,
+}
 
 /// The lives of a merchant.
 fn lives_at<S: Alter>(conn: &mut Connection<S>, m: &MerchantId) -> Result<Option<Lives>, StoreFault>
@@ -86,6 +94,41 @@ pub fn merchant<S: Alter>(
     let given = total_of(&counts, Count::Given)?;
     let denied = total_of(&counts, Count::Denied)?;
     Ok(Some(lives.row(made, given, denied)))
+}
+
+/// The row of the rowid of a merchant's count of tokens made.
+fn made_rows<S: Alter>(conn: &mut Connection<S>, m: &str) -> Result<Vec<Row>, Error>
+    // it only reads
+    ensures { Between S.Store conn.old conn.new (Tells result (λ V rows. Unit {0})) }
+{
+    rows_of(conn, FIND_COUNT_ID, params![m, Count::Made.number() as i64])
+}
+
+/// The rowid of a merchant's count of tokens made, where it has a row.
+fn made_rowid<S: Alter>(conn: &mut Connection<S>, m: &MerchantId) -> Result<Option<i64>, StoreFault>
+    // it only reads: whoever writes by the rowid tests it
+    ensures { Between S.Store conn.old conn.new (Tells result (λ V found. Unit {0})) }
+{
+    let rows = made_rows(conn, merchant_text(m))?;
+    match rows.first() {
+        Some(row) => Ok(Some(row.get(0)?)),
+        None => Ok(None),
+    }
+}
+
+/// The row of a merchant, with the rowid of its count of tokens made, where that has a row.
+pub fn merchant_and_rowid<S: Alter>(
+    conn: &mut Connection<S>,
+    m: &MerchantId,
+) -> Result<(Option<MerchantRow>, Option<i64>), StoreFault>
+    ensures { Between S.Store conn.old conn.new (Tells result (λ V found. found.0 ≡ row_at V m.now)) }
+{
+    let found = merchant(conn, m)?;
+    if found.is_none() {
+        return Ok((found, None));
+    }
+    let rowid = made_rowid(conn, m)?;
+    Ok((found, rowid))
 }
 
 /// The row of the number of merchants.
@@ -190,4 +233,46 @@ pub fn raise<S: Alter>(tx: &mut Transaction<'_, S>, m: &str, kind: u8) -> Result
         return Ok(());
     }
     add_count(tx, m, kind)
+}
+
+/// Raises a count of a merchant by one, whose total is known, where its row has the rowid, and tells whether
+/// it has.
+fn raise_by_rowid<S: Alter>(
+    tx: &mut Transaction<'_, S>,
+    m: &str,
+    kind: u8,
+    known: KnownCount,
+) -> Result<bool, Error>
+    ensures { Inside S.Store tx.old tx.new (Turns newest result
+        (λ t. IsTotal t.counts (m.now, kind) known.total)
+        (λ has t new. new ≡ (if has then record t { counts = raise_at t.counts (m.now, kind) } else t))) }
+{
+    if known.total >= GREATEST {
+        return Ok(false);
+    }
+    let total = known.total + 1;
+    let changed = change(
+        tx,
+        SET_COUNT,
+        params![m, kind as i64, total as i64, known.rowid],
+    )?;
+    Ok(changed > 0)
+}
+
+/// Raises a count of a merchant by one, whose total is known. Its row is looked for only where it hasn't the
+/// rowid.
+pub fn raise_known<S: Alter>(
+    tx: &mut Transaction<'_, S>,
+    m: &str,
+    kind: u8,
+    known: KnownCount,
+) -> Result<(), Error>
+    ensures { Inside S.Store tx.old tx.new (Makes newest result
+        (λ h. IsTotal h.counts (m.now, kind) known.total × HasRoomAt h.counts (m.now, kind))
+        (λ h. record h { counts = raise_at h.counts (m.now, kind) })) }
+{
+    if raise_by_rowid(tx, m, kind, known)? {
+        return Ok(());
+    }
+    raise(tx, m, kind)
 }

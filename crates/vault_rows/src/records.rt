@@ -14,11 +14,11 @@ use crate::columns::{merchant_in, token_in, usage_in};
 use sql_maps::run::{rows_of, step};
 use sql_stored::fault::StoreFault;
 use sqlite::{Alter, Connection, Error, Row, Transaction, params};
-use vault_cards::text::{caller_text, merchant_text};
 use vault_core::name::Caller;
 use vault_core::request::RequestNo;
 use vault_core::row::Record;
 use vault_schema::v1::{ADD_RECORD, FIND_RECORD};
+use vault_tables::columns::{caller_text, merchant_text};
 
 /// The row of a record.
 fn record_rows<S: Alter>(

@@ -14,11 +14,10 @@ use crate::columns::{caller_in, merchant_in, right_in};
 use sql_maps::run::rows_of;
 use sql_stored::fault::StoreFault;
 use sqlite::{Alter, Connection, Error, Row, Transaction};
-use vault_cards::text::{caller_text, merchant_text};
 use vault_core::name::{Caller, MerchantId};
 use vault_core::right::Right;
 use vault_core::row::GrantRow;
-use vault_tables::columns::moment_or_null_in;
+use vault_tables::columns::{caller_text, merchant_text, moment_or_null_in};
 use vault_tables::rights::{self, READ_RIGHTS};
 
 /// The right of a caller at a merchant.

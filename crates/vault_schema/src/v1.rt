@@ -57,6 +57,13 @@ pub const FIND_RECORD: &str =
 pub const RAISE_COUNT: &str =
     "UPDATE counts SET total = total + 1 WHERE merchant = ?1 AND kind = ?2";
 
+/// The rowid of a count of a merchant.
+pub const FIND_COUNT_ID: &str = "SELECT rowid FROM counts WHERE merchant = ?1 AND kind = ?2";
+
+/// Writes the total of a count of a merchant, where its row has this rowid.
+pub const SET_COUNT: &str =
+    "UPDATE counts SET total = ?3 WHERE rowid = ?4 AND merchant = ?1 AND kind = ?2";
+
 /// Begins a count of a merchant at one.
 pub const ADD_COUNT: &str = "INSERT INTO counts VALUES (?1, ?2, 1)";
 

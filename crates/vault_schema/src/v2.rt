@@ -54,8 +54,8 @@ pub const FIND_NUMBER: &str = "SELECT number FROM cards2 WHERE id = ?1";
 /// How many entries point at a card.
 pub const FIND_USES: &str = "SELECT uses FROM cards2 WHERE id = ?1";
 
-/// Writes a card that one entry points at, with a new id.
-pub const ADD_CARD: &str = "INSERT INTO cards2 VALUES (NULL, ?1, ?2, 1)";
+/// Writes a card that one entry points at, with a new id, unless the merchant has one with its number.
+pub const ADD_CARD: &str = "INSERT OR IGNORE INTO cards2 VALUES (NULL, ?1, ?2, 1)";
 
 /// Writes the uses of a card.
 pub const SET_USES: &str = "UPDATE cards2 SET uses = ?2 WHERE id = ?1";

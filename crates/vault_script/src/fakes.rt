@@ -190,6 +190,8 @@ impl<'a> Read for TestReader<'a> {
 
 /// It doesn't ask where it stands.
 impl<'a> Placed for TestReader<'a> {
+    ghost stands = { λ _ _. Unit {0} };
+
     fn stand(&mut self, _is_between: bool) {}
 }
 

@@ -1,6 +1,8 @@
 -- A merchant's own row is written, of which it may be known how it was.
-use Rattle.std.proofs.Common.{◌≡◌, Bool, true, false, cond, Option, Some, None, Ok, Result, ap, arith, inl, inr}
-use Rattle.std.proofs.Common.{refl, sym, subst, ◌∙◌}
+use Rattle.std.proofs.Common.{◌≡◌, Bool, true, false, cond, Option, Some, None, Ok, Result, ap, arith, inl}
+use Rattle.std.proofs.Common.{inr}
+use Rattle.std.proofs.Common.{refl, sym, subst, ◌∙◌, ℕ, IfSome, unwrap_or}
+use Rattle.std.proofs.lemmas.Bool.Decides.{nat_tests}
 use Rattle.std.specs.Prelude.{option_map}
 use Rattle.std.specs.Ordering.{eq_by_cmp}
 use Rattle.sqlite.specs.State.{State}
@@ -10,13 +12,18 @@ use Rattle.vault_cards.specs.Calls.{IsWithin, Makes}
 use Rattle.vault_core.proofs.Maps.{bytes_exact, tied}
 use Rattle.vault_core.specs.Keys.{Bytes, bytes_cmp}
 use Rattle.vault_core.specs.Lives.{lives_in, row_lives}
-use Rattle.vault_core.specs.Vault.{Vault, Merchant, merchant_at}
+use Rattle.vault_core.specs.Numbers.{count_number}
+use Rattle.vault_core.specs.Vault.{Vault, Merchant, made_count, merchant_at}
 use Rattle.vault_core.specs.Window.{row_of, row_at}
+use Rattle.vault_core.specs.declared.changes.Count.TheVariants.{Made}
 use Rattle.vault_core.specs.declared.row.Lives.{Lives}
 use Rattle.vault_core.specs.declared.row.MerchantRow.{MerchantRow}
-use Rattle.vault_schema.specs.Stands.{newest}
+use Rattle.vault_rows.specs.Written.{IsTotal}
+use Rattle.vault_rows.specs.declared.merchants.KnownCount.{KnownCount}
+use Rattle.vault_schema.specs.Stands.{lookups_of, newest, unless_zero}
 use Rattle.vault_schema.specs.Versions.{Lookups}
 use Rattle.vault_schema.specs.declared.version.Version.{Version}
+use Rattle.vault_sql.specs.KnownCounts.{IsMade}
 use Rattle.vault_sql.specs.KnownLives.{AreThere}
 
 -- lives that a merchant has are put again, and nothing changes
@@ -79,3 +86,25 @@ lives_before V m row = go (merchant_at V m)
         → option_map lives_in o ≡ Some (row_lives row)
     go None is = absurd (cc)
     go (Some merchant) is = ap (λ (r : MerchantRow). Some (row_lives r)) (same_some is)
+
+-- and its count of tokens made
+pub made_before : (V : Vault) (m : Bytes) (row : MerchantRow) → row_at V m ≡ Some row
+    → IsTotal (lookups_of V).counts (m, count_number Made) row.made
+made_before V m row = go (merchant_at V m)
+  where
+    back : (n : ℕ) → unwrap_or (unless_zero n) 0 ≡ n
+    back n = grind (arith, nat_tests)
+
+    go : (o : Option Merchant) → option_map (row_of V m) o ≡ Some row
+        → IsTotal (lookups_of V).counts (m, count_number Made) row.made
+    go None is = absurd (cc)
+    go (Some merchant) is =
+        back (made_count V m)
+        ∙ (let same : row_of V m merchant ≡ row = cc in ap (λ (r : MerchantRow). r.made) same)
+
+-- so what is known of it is so
+pub made_known : (m : Bytes) (row : MerchantRow) (held : Bytes × ℕ → Option ℕ)
+    → IsTotal held (m, count_number Made) row.made → (known : Option KnownCount)
+    → IfSome known (λ count. count.total ≡ row.made) → IsMade known m held
+made_known m row held is None same = tt
+made_known m row held is (Some known) same = is ∙ sym same

@@ -5,7 +5,7 @@ ghost use Rattle.vault_core.specs.Sound.{Sound};
 ghost use Rattle.vault_core.specs.Vault.{Vault, right_at};
 ghost use Rattle.vault_core.specs.Window.{row_at};
 ghost use Rattle.vault_schema.specs.Stands.{lookups_of};
-ghost use Rattle.vault_sql.specs.KnownLives.{AreBefore};
+ghost use Rattle.vault_sql.specs.KnownCounts.{IsBefore};
 ghost use Rattle.vault_sql.specs.Remembered.{IsOf, IsRightOf, IsRowOf, nothing};
 ghost use Rattle.vault_store.specs.ShownMerchants.{HasRoom, row_raised, row_with};
 
@@ -13,6 +13,7 @@ use vault_core::changes::{Changes, Count};
 use vault_core::name::{Caller, MerchantId};
 use vault_core::right::Right;
 use vault_core::row::{GrantRow, Lives, MerchantRow};
+use vault_rows::merchants::KnownCount;
 
 /// How many merchants are remembered at most.
 pub const MERCHANTS: usize = 8;
@@ -20,11 +21,19 @@ pub const MERCHANTS: usize = 8;
 /// How many rights are remembered at most.
 pub const RIGHTS: usize = 16;
 
-/// A merchant and its row.
+/// A merchant and its row, and the rowid that its count of tokens made may have.
 #[derive(Clone, Copy)]
 pub struct KnownMerchant {
     pub(crate) name: MerchantId,
     pub(crate) row: MerchantRow,
+    pub(crate) made_rowid: Option<i64>,
+}
+
+/// What is known of a merchant before it changes: its lives, and its count of tokens made.
+#[derive(Clone, Copy)]
+pub struct Known {
+    pub(crate) lives: Option<Lives>,
+    pub(crate) made: Option<KnownCount>,
 }
 
 /// A right of a caller at a merchant and its end, or that the caller doesn't have it.
@@ -46,14 +55,15 @@ pub struct Remembered {
     pub(crate) next_right: usize,
 }
 
-/// The row of a merchant among those that are known.
-fn known_row(slots: &[Option<KnownMerchant>], m: &MerchantId) -> Option<MerchantRow>
-    // it is the merchant's row in each vault of which all of them are
-    ensures { IfSome result (λ row. (V : Vault) → All (IsRowOf V) slots.now → row_at V m.now ≡ Some row) }
+/// A merchant among those that are known.
+fn known_merchant(slots: &[Option<KnownMerchant>], m: &MerchantId) -> Option<KnownMerchant>
+    // its row is the merchant's in each vault of which all of them are
+    ensures { IfSome result (λ known. (V : Vault) → All (IsRowOf V) slots.now
+        → row_at V m.now ≡ Some known.row) }
 {
     for slot in slots {
         match slot {
-            Some(known) if known.name == *m => return Some(known.row),
+            Some(known) if known.name == *m => return Some(*known),
             _ => {}
         }
     }
@@ -119,16 +129,28 @@ fn row_after(known: &KnownMerchant, ch: &Changes) -> MerchantRow
     }
 }
 
-/// A merchant that is known, if any, after changes.
+/// Whether changes begin a merchant's count of tokens made, so that nothing is known of its rowid.
+fn begins_count(known: &KnownMerchant, ch: &Changes) -> bool {
+    match &ch.lives {
+        Some((m, _)) => {
+            known.made_rowid.is_none() && matches!(ch.count, Some(Count::Made)) && known.name == *m
+        }
+        None => false,
+    }
+}
+
+/// A merchant that is known, if any, after changes. One whose count of tokens made begins is forgotten, so
+/// that it is read with its rowid.
 fn merchant_after(slot: &Option<KnownMerchant>, ch: &Changes) -> Option<KnownMerchant>
     ensures { (V : Vault) → IsRowOf V slot.now → Sound V → Fit V ch.now → IsRowOf (plus V ch.now) result }
 {
     match slot {
-        Some(known) => Some(KnownMerchant {
+        Some(known) if !begins_count(known, ch) => Some(KnownMerchant {
             name: known.name,
             row: row_after(known, ch),
+            made_rowid: known.made_rowid,
         }),
-        None => None,
+        _ => None,
     }
 }
 
@@ -139,6 +161,19 @@ fn follow(slots: &mut [Option<KnownMerchant>], ch: &Changes)
 {
     for slot in slots.iter_mut() {
         *slot = merchant_after(slot, ch);
+    }
+}
+
+/// A merchant's count of tokens made, where its rowid may be known.
+fn made_count(known: &KnownMerchant) -> Option<KnownCount>
+    ensures { IfSome result (λ count. count.total ≡ known.now.row.made) }
+{
+    match known.made_rowid {
+        Some(rowid) => Some(KnownCount {
+            total: known.row.made,
+            rowid,
+        }),
+        None => None,
     }
 }
 
@@ -167,20 +202,32 @@ impl Remembered {
         // it is the merchant's row in each vault of which this is remembered
         ensures { IfSome result (λ row. (V : Vault) → IsOf self.now V → row_at V m.now ≡ Some row) }
     {
-        known_row(&self.merchants, m)
+        match known_merchant(&self.merchants, m) {
+            Some(known) => Some(known.row),
+            None => None,
+        }
     }
 
-    /// The lives that a merchant has before they change, where it is remembered.
-    pub(crate) fn lives_before(&self, lives: &Option<(MerchantId, Lives)>) -> Option<Lives>
-        // they are its lives in each vault of which this is remembered
-        ensures { (V : Vault) → IsOf self.now V → AreBefore lives.now result (lookups_of V).merchants }
+    /// What is known of the merchant whose lives change, as it is before.
+    pub(crate) fn before(&self, lives: &Option<(MerchantId, Lives)>) -> Known
+        // it is so of each vault of which this is remembered
+        ensures { (V : Vault) → IsOf self.now V → IsBefore lives.now result (lookups_of V) }
     {
         let Some((m, _)) = lives else {
-            return None;
+            return Known {
+                lives: None,
+                made: None,
+            };
         };
-        match self.merchant(m) {
-            Some(row) => Some(row.lives()),
-            None => None,
+        match known_merchant(&self.merchants, m) {
+            Some(known) => Known {
+                lives: Some(known.row.lives()),
+                made: made_count(&known),
+            },
+            None => Known {
+                lives: None,
+                made: None,
+            },
         }
     }
 
@@ -193,7 +240,12 @@ impl Remembered {
     }
 
     /// Remembers what was read of a merchant, where it is there.
-    pub(crate) fn keep_merchant(&mut self, m: MerchantId, found: &Option<MerchantRow>)
+    pub(crate) fn keep_merchant(
+        &mut self,
+        m: MerchantId,
+        found: &Option<MerchantRow>,
+        made_rowid: Option<i64>,
+    )
         // where this was so of a vault, and so is what was read, it still is
         ensures { (V : Vault) → IsOf self.old V → found.now ≡ row_at V m → IsOf self.new V }
     {
@@ -201,7 +253,11 @@ impl Remembered {
             return;
         };
         let at = self.next_merchant % MERCHANTS;
-        self.merchants[at] = Some(KnownMerchant { name: m, row: *row });
+        self.merchants[at] = Some(KnownMerchant {
+            name: m,
+            row: *row,
+            made_rowid,
+        });
         self.next_merchant = at + 1;
     }
 

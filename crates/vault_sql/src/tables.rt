@@ -18,7 +18,7 @@ use vault_core::row::{Entry, GrantRow, MerchantRow, Record};
 use vault_pan::pan::Pan;
 use vault_pan::token::Token;
 use vault_rows::entries::{current, entry};
-use vault_rows::merchants::{all_merchants, how_many, merchant};
+use vault_rows::merchants::{all_merchants, how_many, merchant_and_rowid};
 use vault_rows::records::recorded;
 use vault_rows::rights::{all_rights, right};
 use vault_store::tables::{RightRow, Tables, TablesFault};
@@ -123,10 +123,10 @@ impl<S: Alter> Tables for SqlTables<S> {
         if let Some(row) = self.remembered.merchant(&m) {
             return Ok(Some(row));
         }
-        match merchant(&mut self.conn, &m) {
+        match merchant_and_rowid(&mut self.conn, &m) {
             Ok(found) => {
-                self.remembered.keep_merchant(m, &found);
-                Ok(found)
+                self.remembered.keep_merchant(m, &found.0, found.1);
+                Ok(found.0)
             }
             Err(_) => self.fail(),
         }
@@ -258,7 +258,7 @@ impl<S: Alter> Tables for SqlTables<S> {
         if !are_storable(ch) {
             return self.fail();
         }
-        let known = self.remembered.lives_before(&ch.lives);
+        let known = self.remembered.before(&ch.lives);
         match write(&mut self.conn, ch, &known) {
             Ok(()) => {
                 self.place = place_after(&self.place, ch);

@@ -12,26 +12,29 @@ ghost use Rattle.vault_schema.specs.Versions.{newest};
 ghost use Rattle.vault_cards.specs.Calls.{Makes};
 ghost use Rattle.vault_schema.specs.Holds.{Holds, LeavesEither};
 ghost use Rattle.vault_schema.specs.Stands.{lookups_of};
+ghost use Rattle.vault_sql.specs.KnownCounts.{IsBefore, IsMade, IsMadeBefore};
 ghost use Rattle.vault_sql.specs.KnownLives.{AreBefore, AreThere};
 ghost use Rattle.vault_sql.specs.Storable.{AreStorable, IsStorableEntry, IsStorableLives};
-ghost use Rattle.vault_rows.specs.Written.{HasRoom, put_entry as put_entry_lem};
+ghost use Rattle.vault_core.specs.declared.changes.Count.TheVariants.{Made};
+ghost use Rattle.vault_core.specs.Numbers.{count_number};
+ghost use Rattle.vault_rows.specs.Written.{HasRoom, HasRoomAt, put_entry as put_entry_lem, raise_at};
 ghost use Rattle.vault_rows.specs.Written.{put_lives, put_record as put_record_lem, put_right};
 ghost use Rattle.vault_rows.specs.Written.{raise as raise_lem};
 
+use crate::remembered::Known;
 use sql_stored::fault::StoreFault;
 use sqlite::{Alter, Connection, Error, Transaction};
-use vault_cards::parameters::GREATEST;
 use vault_cards::pointing::{add_entry, put_entry};
-use vault_cards::text::{caller_text, merchant_text};
 use vault_core::changes::{Changes, Count};
 use vault_core::name::{Caller, MerchantId};
 use vault_core::request::RequestNo;
 use vault_core::right::Right;
 use vault_core::row::{Entry, GrantRow, Lives, Record};
 use vault_pan::token::Token;
-use vault_rows::merchants::{put_merchant, raise, set_lives};
+use vault_rows::merchants::{KnownCount, put_merchant, raise, raise_known, set_lives};
 use vault_rows::records::add_record;
 use vault_rows::rights::{give, take};
+use vault_tables::columns::{GREATEST, caller_text, merchant_text};
 
 /// Whether columns hold the numbers of a merchant's lives.
 fn are_storable_lives(lives: &Option<(MerchantId, Lives)>) -> bool
@@ -99,21 +102,55 @@ fn write_lives<S: Alter>(
     }
 }
 
-/// Raises a count of the merchant whose lives are written.
+/// Raises the count of a merchant's tokens made, which may be known.
+fn raise_made<S: Alter>(
+    tx: &mut Transaction<'_, S>,
+    m: &MerchantId,
+    known: Option<KnownCount>,
+) -> Result<(), Error>
+    ensures { Inside S.Store tx.old tx.new (Makes newest result
+        (λ h. IsMade known m.now h.counts × HasRoomAt h.counts (m.now, count_number Made))
+        (λ h. record h { counts = raise_at h.counts (m.now, count_number Made) })) }
+{
+    match known {
+        Some(known) => raise_known(tx, merchant_text(m), Count::Made.number(), known),
+        None => raise(tx, merchant_text(m), Count::Made.number()),
+    }
+}
+
+/// Raises a count of a merchant, of whose tokens made the count may be known.
+fn raise_count<S: Alter>(
+    tx: &mut Transaction<'_, S>,
+    m: &MerchantId,
+    count: Count,
+    made: Option<KnownCount>,
+) -> Result<(), Error>
+    ensures { Inside S.Store tx.old tx.new (Makes newest result
+        (λ h. IsMade made m.now h.counts × HasRoomAt h.counts (m.now, count_number count))
+        (λ h. record h { counts = raise_at h.counts (m.now, count_number count) })) }
+{
+    match count {
+        Count::Made => raise_made(tx, m, made),
+        _ => raise(tx, merchant_text(m), count.number()),
+    }
+}
+
+/// Raises a count of the merchant whose lives are written, of whose tokens made the count may be known.
 fn write_count<S: Alter>(
     tx: &mut Transaction<'_, S>,
     lives: &Option<(MerchantId, Lives)>,
     count: Option<Count>,
+    made: Option<KnownCount>,
 ) -> Result<(), Error>
     ensures { Inside S.Store tx.old tx.new (Makes newest result
-        (λ h. HasRoom h.counts lives.now count)
+        (λ h. IsMadeBefore lives.now made h.counts × HasRoom h.counts lives.now count)
         (λ h. record h { counts = raise_lem h.counts lives.now count })) }
 {
     let Some((m, _)) = lives else {
         return Ok(());
     };
     match count {
-        Some(count) => raise(tx, merchant_text(m), count.number()),
+        Some(count) => raise_count(tx, m, count, made),
         None => Ok(()),
     }
 }
@@ -190,20 +227,20 @@ fn write_right<S: Alter>(
 fn write_merchant<S: Alter>(
     tx: &mut Transaction<'_, S>,
     ch: &Changes,
-    known: &Option<Lives>,
+    known: &Known,
 ) -> Result<(), StoreFault>
     // the numbers of the changes fit the columns
     requires { AreStorable ch.now }
     ensures { Inside S.Store tx.old tx.new (Makes newest result
-        (λ h. AreBefore ch.now.lives known.now h.merchants × HasRoom h.counts ch.now.lives ch.now.count)
+        (λ h. IsBefore ch.now.lives known.now h × HasRoom h.counts ch.now.lives ch.now.count)
         (λ h. record h {
           merchants = put_lives h.merchants ch.now.lives;
           counts = raise_lem h.counts ch.now.lives ch.now.count;
           entries = put_entry_lem h.entries ch.now.entry;
         })) }
 {
-    write_lives(tx, &ch.lives, known)?;
-    write_count(tx, &ch.lives, ch.count)?;
+    write_lives(tx, &ch.lives, &known.lives)?;
+    write_count(tx, &ch.lives, ch.count, known.made)?;
     write_entry(tx, &ch.entry, ch.count)
 }
 
@@ -217,11 +254,11 @@ fn write_caller<S: Alter>(tx: &mut Transaction<'_, S>, ch: &Changes) -> Result<(
     write_right(tx, &ch.right)
 }
 
-/// Makes the changes in one transaction, all of them or none. The lives that the merchant had may be known.
+/// Makes the changes in one transaction, all of them or none. What the merchant was may be known.
 pub(crate) fn write<S: Alter>(
     conn: &mut Connection<S>,
     ch: &Changes,
-    known: &Option<Lives>,
+    known: &Known,
 ) -> Result<(), StoreFault>
     // the numbers of the changes fit the columns
     requires storable { AreStorable ch.now }
@@ -231,15 +268,15 @@ pub(crate) fn write<S: Alter>(
     ensures idle { conn.new.in_transaction ≡ false }
     // a disk that is honest after the call was so before it
     ensures clean { KeepsDoubts S.Store conn.old conn.new }
-    // with Ok, on an honest disk, a sound vault that was held, whose lives were known so, and that the
+    // with Ok, on an honest disk, a sound vault that was held, whose merchant was known so, and that the
     // changes fit is held with them
     ensures done { HasCleanDisk (state S.Store conn.new)
         → OnOk result ((V : Vault) → Holds (state S.Store conn.old) V
-        → AreBefore ch.now.lives known.now (lookups_of V).merchants → Sound V → Fit V ch.now
+        → IsBefore ch.now.lives known.now (lookups_of V) → Sound V → Fit V ch.now
         → Holds (state S.Store conn.new) (plus V ch.now)) }
     // on an honest disk, a crash leaves such a vault without the changes or with them
     ensures crash { HasCleanDisk (state S.Store conn.new) → (V : Vault) → Holds (state S.Store conn.old) V
-        → AreBefore ch.now.lives known.now (lookups_of V).merchants → Sound V → Fit V ch.now
+        → IsBefore ch.now.lives known.now (lookups_of V) → Sound V → Fit V ch.now
         → LeavesEither (state S.Store conn.new) V (plus V ch.now) }
 {
     let mut tx = conn.transaction();

@@ -11,11 +11,11 @@ use crate::room::make_room;
 use sql_stored::fault::StoreFault;
 use sqlite::{Alter, Transaction};
 use vault_cards::pointing::add_entry;
-use vault_cards::text::merchant_text;
 use vault_core::name::MerchantId;
 use vault_core::row::Entry;
 use vault_pan::token::Token;
 use vault_schema::version::Version;
+use vault_tables::columns::merchant_text;
 
 /// Writes new entries, one after the other.
 fn put_entries<S: Alter>(

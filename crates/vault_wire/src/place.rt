@@ -5,22 +5,32 @@ use std::io::Read;
 
 /// A reader that is told where it stands before each read.
 pub trait Placed: Read {
-    ghost use Rattle.std.specs.Prelude.{◌≡◌};
+    ghost use Rattle.std.specs.Prelude.{◌≡◌, Bool};
+
+    // it was told so last
+    ghost stands: { Self → Bool → Type 0 };
 
     /// Takes in whether it stands between two messages: no byte of the next one was read.
     fn stand(&mut self, is_between: bool)
         // what it has left to give stays
-        ensures { Self.remaining self.new ≡ Self.remaining self.old };
+        ensures bytes { Self.remaining self.new ≡ Self.remaining self.old }
+        // it was told so
+        ensures place { stands self.new is_between };
 }
 
 /// Tells readers of a type where they stand.
 pub trait Guide<R: Read> {
-    ghost use Rattle.std.specs.Prelude.{◌≡◌};
+    ghost use Rattle.std.specs.Prelude.{◌≡◌, Bool};
+
+    // a reader was told so last
+    ghost told: { R → Bool → Type 0 };
 
     /// Tells a reader whether it stands between two messages.
     fn tell(&self, reader: &mut R, is_between: bool)
         // what it has left to give stays
-        ensures { R.remaining reader.new ≡ R.remaining reader.old };
+        ensures bytes { R.remaining reader.new ≡ R.remaining reader.old }
+        // it was told so
+        ensures place { told reader.new is_between };
 }
 
 /// Tells nothing: for readers that don't ask.
@@ -28,6 +38,8 @@ pub trait Guide<R: Read> {
 pub struct Silent;
 
 impl<R: Read> Guide<R> for Silent {
+    ghost told = { λ _ _. Unit {0} };
+
     fn tell(&self, _reader: &mut R, _is_between: bool) {}
 }
 
@@ -36,6 +48,8 @@ impl<R: Read> Guide<R> for Silent {
 pub struct Telling;
 
 impl<R: Placed> Guide<R> for Telling {
+    ghost told = { R.stands };
+
     fn tell(&self, reader: &mut R, is_between: bool) {
         reader.stand(is_between)
     }

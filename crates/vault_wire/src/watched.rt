@@ -52,6 +52,8 @@ impl<R: Read> Watched<R> {
     pub fn tell<G: Guide<R>>(&mut self, guide: &G, is_between: bool)
         // what it has left to give stays
         ensures bytes { R.remaining (inner_of self.new) ≡ R.remaining (inner_of self.old) }
+        // it was told so
+        ensures place { G.told (inner_of self.new) is_between }
         // whether a call failed stays
         ensures flag { is_stopped self.new ≡ is_stopped self.old }
     {

@@ -5,7 +5,7 @@ ghost use Rattle.vault_core.specs.Scalar.{IsLife};
 
 use crate::changes::Changes;
 use crate::command::Command;
-use crate::decide::answer::{moved, refused};
+use crate::decide::{moved, refused};
 use crate::limit::MOST_MERCHANTS;
 use crate::moment::Moment;
 use crate::name::{Caller, MerchantId};

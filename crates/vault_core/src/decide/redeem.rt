@@ -8,7 +8,7 @@ ghost use Rattle.vault_core.specs.Vault.{state_of, time_at};
 
 use crate::changes::{Changes, Count};
 use crate::command::{Command, TokenCommand};
-use crate::decide::answer::{moved, refused};
+use crate::decide::{moved, refused};
 use crate::limit::MOST_COUNT;
 use crate::moment::Moment;
 use crate::name::MerchantId;

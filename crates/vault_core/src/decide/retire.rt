@@ -4,7 +4,7 @@ ghost use Rattle.vault_core.specs.Named.{command_by};
 
 use crate::changes::Changes;
 use crate::command::{Command, TokenCommand};
-use crate::decide::answer::{moved, refused};
+use crate::decide::{moved, refused};
 use crate::reply::{Reply, State};
 use crate::row::{Entry, EntryState};
 use crate::window::Window;

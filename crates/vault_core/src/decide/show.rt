@@ -5,7 +5,7 @@ ghost use Rattle.vault_core.specs.Named.{command_by};
 
 use crate::changes::Changes;
 use crate::command::{Command, TokenCommand};
-use crate::decide::answer::refused;
+use crate::decide::refused;
 use crate::moment::Moment;
 use crate::name::{Caller, MerchantId};
 use crate::reply::Reply;

@@ -9,7 +9,7 @@ ghost use Rattle.vault_core.specs.Window.{ShowsMerchant};
 
 use crate::changes::{Changes, Count};
 use crate::command::TokenRequest;
-use crate::decide::answer::{moved, refused};
+use crate::decide::{moved, refused};
 use crate::limit::MOST_TOKENS;
 use crate::reply::Reply;
 use crate::row::{Entry, MerchantRow, Record};

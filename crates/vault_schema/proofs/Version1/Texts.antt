@@ -10,15 +10,15 @@ use Rattle.sqlite_sql.specs.declared.ops.ArithOp.TheVariants.{Add}
 use Rattle.sqlite_sql.specs.declared.ops.BinaryOp.TheVariants.{Arith}
 use Rattle.sql_maps.specs.Schema.{grown}
 use Rattle.sql_maps.specs.Texts.{IsQuery, IsWrite, query_of, sorted_of, ordered_by, by_key}
-use Rattle.sql_maps.specs.Texts.{insert, update}
+use Rattle.sql_maps.specs.Texts.{by_both, insert, update}
 use Rattle.vault_schema.proofs.Meanings.{whole_of}
 use Rattle.vault_schema.specs.Versioned.{versioned}
 use Rattle.vault_schema.specs.Version1.Tables.{v1}
 use Rattle.vault_schema.specs.declared.v1.TheConstants.{READ_VERSIONS, READ_COUNTS}
 use Rattle.vault_schema.specs.declared.v1.TheConstants.{READ_ENTRIES, READ_ENTRY_IDS, READ_RECORDS}
-use Rattle.vault_schema.specs.declared.v1.TheConstants.{FIND_COUNTS}
+use Rattle.vault_schema.specs.declared.v1.TheConstants.{FIND_COUNTS, FIND_COUNT_ID}
 use Rattle.vault_schema.specs.declared.v1.TheConstants.{FIND_RECORD}
-use Rattle.vault_schema.specs.declared.v1.TheConstants.{RAISE_COUNT, ADD_COUNT, ADD_RECORD}
+use Rattle.vault_schema.specs.declared.v1.TheConstants.{RAISE_COUNT, SET_COUNT, ADD_COUNT, ADD_RECORD}
 
 -- the columns of a count after an update
 abbrev pub count_set : List Term
@@ -30,6 +30,10 @@ module _ (ts : List Table) (is : List Index) where
   pub counts_is : IsQuery (grown v1 ts is) FIND_COUNTS.now (query_of 3 (by_key 1) (col 1 2 ∷ col 1 3 ∷ []))
   unfolding understood everything
   counts_is = record { names = _; is = refl; plain = (refl, refl); unlisted = refl }
+
+  pub count_id_is : IsQuery (grown v1 ts is) FIND_COUNT_ID.now (query_of 3 (by_key 2) (col 1 0 ∷ []))
+  unfolding understood everything
+  count_id_is = record { names = _; is = refl; plain = (refl, refl); unlisted = refl }
 
   pub record_is : IsQuery (grown v1 ts is) FIND_RECORD.now
       (query_of 8 (by_key 2) (col 1 3 ∷ col 1 4 ∷ col 1 5 ∷ []))
@@ -60,6 +64,11 @@ module _ (ts : List Table) (is : List Index) where
   pub raise_is : IsWrite (grown v1 ts is) RAISE_COUNT.now (update 2 3 (by_key 2) count_set)
   unfolding understood everything
   raise_is = record { is = refl; plain = (refl, refl) }
+
+  pub set_count_is : IsWrite (grown v1 ts is) SET_COUNT.now
+      (update 2 3 (by_both 3 2) (col 1 1 ∷ col 1 2 ∷ col 0 2 ∷ []))
+  unfolding understood everything
+  set_count_is = record { is = refl; plain = (refl, refl) }
 
   pub add_count_is : IsWrite (grown v1 ts is) ADD_COUNT.now
       (insert 2 4 (lit Null ∷ col 0 0 ∷ col 0 1 ∷ lit (Int (pos 1)) ∷ []))

@@ -13,7 +13,7 @@ use Rattle.sqlite_sql.specs.declared.ops.CompareOp.TheVariants.{Ge, Gt, Le}
 use Rattle.sqlite_sql.specs.declared.ops.UnaryOp.TheVariants.{Not}
 use Rattle.sql_maps.specs.Schema.{grown}
 use Rattle.sql_maps.specs.Texts.{IsQuery, IsWrite, query_of, sorted_of, ordered_by, by_id, by_key, eq, update}
-use Rattle.sql_maps.specs.Texts.{insert, upsert, delete, first_of}
+use Rattle.sql_maps.specs.Texts.{insert, insert_or_ignore, upsert, delete, first_of}
 use Rattle.vault_schema.proofs.Meanings.{whole_of}
 use Rattle.vault_schema.specs.Version2.Tables.{v2}
 use Rattle.vault_schema.specs.declared.v2.TheConstants.{SET_VERSION, EMPTY_ENTRIES, FIND_CARD}
@@ -111,7 +111,7 @@ module _ (ts : List Table) (is : List Index) where
   empty_entries_is = record { is = refl; plain = (refl, refl) }
 
   pub add_card_is : IsWrite (grown v2 ts is) ADD_CARD.now
-      (insert 6 5 (lit Null ∷ lit Null ∷ col 0 0 ∷ col 0 1 ∷ lit (Int (pos 1)) ∷ []))
+      (insert_or_ignore 6 5 (lit Null ∷ lit Null ∷ col 0 0 ∷ col 0 1 ∷ lit (Int (pos 1)) ∷ []))
   unfolding understood everything
   add_card_is = record { is = refl; plain = (refl, refl) }
 

@@ -6,7 +6,7 @@ use Rattle.vault_blank.proofs.page.blank_page.Goals as goal
 
 pub returns-clause-bytes : goal.returns-clause-bytes
 returns-clause-bytes c =
-    let name : c.put.new.page ≡ page_with (repeat 1024 (0 ∷ [])) 0 (codes "SQLite format 3" ++ 0 ∷ [])
+    let name : c.put.new.page ≡ page_with (repeat 512 (0 ∷ [])) 0 (codes "SQLite format 3" ++ 0 ∷ [])
     = c.put.ensures in
     let size = page_with-put 16 name c.to_be_bytes.ensures c.put-2.ensures in
     let versions = page_with-put {put = 2 ∷ 2 ∷ []} 18 size refl c.put-3.ensures in

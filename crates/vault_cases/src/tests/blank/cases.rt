@@ -67,7 +67,7 @@ remove vault_blank_half = done";
 /// A path may be a name alone.
 const ALONE: &str = "make vault_blank_alone = new
 make ./vault_blank_alone = there
-size vault_blank_alone = 1024
+size vault_blank_alone = 512
 delete vault_blank_alone = done";
 
 /// Words that name no place are refused.

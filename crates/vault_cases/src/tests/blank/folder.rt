@@ -23,7 +23,7 @@ pub fn is_page(rt: &HostRuntime, path: &str, then: &[u8]) -> bool {
     let Ok(bytes) = fs::read(rt, path) else {
         return false;
     };
-    match bytes.as_slice().split_at_checked(1024) {
+    match bytes.as_slice().split_at_checked(512) {
         Some((page, rest)) => page == blank_page().as_slice() && rest == then,
         None => false,
     }

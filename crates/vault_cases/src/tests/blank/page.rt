@@ -13,7 +13,7 @@ fn number_at(page: &[u8], at: usize, width: usize) -> Option<u64> {
 
 /// Places, widths and numbers.
 const FIELDS: [(usize, usize, u64); 27] = [
-    (16, 2, 1024),
+    (16, 2, 512),
     (18, 1, 2),
     (19, 1, 2),
     (20, 1, 0),
@@ -39,12 +39,12 @@ const FIELDS: [(usize, usize, u64); 27] = [
     (96, 4, 3_045_000),
     (100, 1, 13),
     (101, 4, 0),
-    (105, 3, 1024 * 256),
+    (105, 3, 512 * 256),
 ];
 
-/// Whether the page has 1024 bytes, begins with the format's name, and has no byte behind its fields.
+/// Whether the page has 512 bytes, begins with the format's name, and has no byte behind its fields.
 fn is_framed(page: &[u8]) -> bool {
-    page.len() == 1024
+    page.len() == 512
         && page.starts_with(b"SQLite format 3\0")
         && page.iter().skip(108).all(|byte| *byte == 0)
 }

@@ -230,7 +230,8 @@ pub returns-in-Ok-true-clause-own_failure : goal.returns-in-Ok-true-clause-own_f
 returns-in-Ok-true-clause-own_failure g c =
     let went =
     after_read _ _ _ _ _ _ (c.in-Ok.ensures.flag ∙ sym c.in-Ok.ensures.ok) c.pieces.invariant.told in
-    beside_reader Bool (Ok true) (is_stopped c.next_piece.new.reader) _ _ _ _ _ _ c.in-Ok-true.ensures.own_failure
+    beside_reader Bool (Ok true) (is_stopped c.next_piece.new.reader) _ _ _ _ _ _
+    c.in-Ok-true.ensures.own_failure
     ∙ went
 
 pub returns-in-Err-clause-own_failure : goal.returns-in-Err-clause-own_failure
@@ -246,7 +247,8 @@ returns-in-Err-refuse-clause-own_failure g c =
     let went =
     after_read _ _ _ _ _ _ (c.in-Ok.ensures.flag ∙ sym c.in-Ok.ensures.ok) c.pieces.invariant.told in
     let all =
-    beside_reader Bool (Ok false) (is_stopped c.next_piece.new.reader) _ _ _ _ _ _ c.in-Ok-false.ensures.own_failure
+    beside_reader Bool (Ok false) (is_stopped c.next_piece.new.reader) _ _ _ _ _ _
+    c.in-Ok-false.ensures.own_failure
     ∙ went in
     tells_as (Unit {0}) Served c.in-Err-refuse.stop _ _ _ all
     (beside_writer c.in-Err-refuse.stop (g.S.Source.has_refused c.answer_all.new.source)
@@ -258,7 +260,8 @@ returns-in-Some-clause-own_failure g c =
     let went =
     after_read _ _ _ _ _ _ (c.in-Ok.ensures.flag ∙ sym c.in-Ok.ensures.ok) c.pieces.invariant.told in
     let all =
-    beside_reader Bool (Ok false) (is_stopped c.next_piece.new.reader) _ _ _ _ _ _ c.in-Ok-false.ensures.own_failure
+    beside_reader Bool (Ok false) (is_stopped c.next_piece.new.reader) _ _ _ _ _ _
+    c.in-Ok-false.ensures.own_failure
     ∙ went in
     ap (λ (f : Failures). failures (g.S.Source.has_refused c.answer_all.new.source)
     (is_stopped c.next_piece.new.reader) f.writer

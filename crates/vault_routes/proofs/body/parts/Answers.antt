@@ -6,7 +6,8 @@ use Rattle.vault_routes.proofs.body.parts.Goals as goal
 
 pub returns : goal.returns
 returns c =
-    let first = strip_prefix_is unsigned_Decides c.args.bytes.now (codes "{\"number\":\"") (Some c.in_ok-rest.rest)
+    let first = strip_prefix_is unsigned_Decides c.args.bytes.now (codes "{\"number\":\"") (Some
+    c.in_ok-rest.rest)
     c.in_ok-rest.ensures.cases in
     let next = strip_prefix_is unsigned_Decides c.split_at.result.1.now (codes "\",\"use\":\"")
     (Some c.in_ok-strip_prefix.field-0) c.in_ok-strip_prefix.ensures.cases in

@@ -26,7 +26,8 @@ pub returns-in_err-asker-clause-wanted : goal.returns-in_err-asker-clause-wanted
 returns-in_err-asker-clause-wanted c =
     let target = target_of c.in-Some.route in
     let by = routed c.args.message.now _ target _ c.in-Some-action.action
-    (named c.args.route c.in-Some.route _ c.in-Some.is c.requires) c.method.ensures c.in-Some-action.ensures refl in
+    (named c.args.route c.in-Some.route _ c.in-Some.is c.requires) c.method.ensures
+    c.in-Some-action.ensures refl in
     refused_by (Wants c.args.message.now c.args.now c.args.digits) c.from_residual.result
     c.in_err-asker.field-0.0
     c.from_residual.ensures.1
@@ -43,7 +44,8 @@ returns-in_err-order-in-Tokenize-clause-wanted c =
     c.from_residual-in_err-order-in-Tokenize.result
     c.in_err-order-in-Tokenize.field-0.0 c.from_residual-in_err-order-in-Tokenize.ensures.1
     (λ some. wants_by c.args.message.now c.args.now c.args.digits (target_of c.in-Some.route) action.Tokenize
-    c.in_ok-asker.asker _ (routed _ _ _ _ _ (named c.args.route c.in-Some.route _ c.in-Some.is c.requires) c.method.ensures
+    c.in_ok-asker.asker _ (routed _ _ _ _ _ (named c.args.route c.in-Some.route _ c.in-Some.is
+    c.requires) c.method.ensures
     c.in-Some-action.ensures c.in-Tokenize.is) c.in_ok-asker.ensures.wanted
     (order_refused c.args.message.now (λ o r. r ≡ Ok (command_for c.in_ok-asker.asker o c.args.digits)) _
     (c.in_err-order-in-Tokenize.ensures.wanted some)))
@@ -56,7 +58,8 @@ returns-in_err-token-in-OnToken-clause-wanted c =
     refusal.BadToken c.from_residual-in_err-token-in-OnToken.ensures.1
     (λ _. wants_by c.args.message.now c.args.now c.args.digits (target_of c.in-Some.route)
     (action.OnToken c.in-OnToken.what)
-    c.in_ok-asker.asker _ (routed _ _ _ _ _ (named c.args.route c.in-Some.route _ c.in-Some.is c.requires) c.method.ensures
+    c.in_ok-asker.asker _ (routed _ _ _ _ _ (named c.args.route c.in-Some.route _ c.in-Some.is
+    c.requires) c.method.ensures
     c.in-Some-action.ensures c.in-OnToken.is) c.in_ok-asker.ensures.wanted
     (inr (
       (λ is. c.in_err-token-in-OnToken.ensures (subst IsToken (sym c.as_bytes.ensures.value) is)),
@@ -67,7 +70,8 @@ pub returns-in_ok-order-in-Tokenize-clause-wanted :
     goal.returns-in_ok-order-in-Tokenize-clause-wanted
 returns-in_ok-order-in-Tokenize-clause-wanted c =
     wants_by c.args.message.now c.args.now c.args.digits (target_of c.in-Some.route) action.Tokenize
-    c.in_ok-asker.asker _ (routed _ _ _ _ _ (named c.args.route c.in-Some.route _ c.in-Some.is c.requires) c.method.ensures
+    c.in_ok-asker.asker _ (routed _ _ _ _ _ (named c.args.route c.in-Some.route _ c.in-Some.is
+    c.requires) c.method.ensures
     c.in-Some-action.ensures c.in-Tokenize.is) c.in_ok-asker.ensures.wanted
     (order_read c.args.message.now (λ o r. r ≡ Ok (command_for c.in_ok-asker.asker o c.args.digits))
     c.in_ok-order-in-Tokenize.order _ c.in_ok-order-in-Tokenize.ensures.wanted
@@ -79,7 +83,8 @@ returns-in_ok-token-in-OnToken-clause-wanted c =
     let read = c.in_ok-token-in-OnToken.ensures in
     wants_by c.args.message.now c.args.now c.args.digits (target_of c.in-Some.route)
     (action.OnToken c.in-OnToken.what)
-    c.in_ok-asker.asker _ (routed _ _ _ _ _ (named c.args.route c.in-Some.route _ c.in-Some.is c.requires) c.method.ensures
+    c.in_ok-asker.asker _ (routed _ _ _ _ _ (named c.args.route c.in-Some.route _ c.in-Some.is
+    c.requires) c.method.ensures
     c.in-Some-action.ensures c.in-OnToken.is) c.in_ok-asker.ensures.wanted
     (inl (
       subst IsToken c.as_bytes.ensures.value read.0,
@@ -90,5 +95,6 @@ returns-in_ok-token-in-OnToken-clause-wanted c =
 pub returns-in-Audit-clause-wanted : goal.returns-in-Audit-clause-wanted
 returns-in-Audit-clause-wanted c =
     wants_by c.args.message.now c.args.now c.args.digits (target_of c.in-Some.route) action.Audit
-    c.in_ok-asker.asker _ (routed _ _ _ _ _ (named c.args.route c.in-Some.route _ c.in-Some.is c.requires) c.method.ensures
+    c.in_ok-asker.asker _ (routed _ _ _ _ _ (named c.args.route c.in-Some.route _ c.in-Some.is
+    c.requires) c.method.ensures
     c.in-Some-action.ensures c.in-Audit.is) c.in_ok-asker.ensures.wanted refl

@@ -13,7 +13,7 @@ use Rattle.vault_rows.proofs.Calls.{begun_over, held_after, ours}
 use Rattle.vault_schema.specs.Left.{last_commit}
 use Rattle.vault_schema.specs.Stands.{newest}
 use Rattle.vault_sql.proofs.WrittenPlus.{has_room, written_plus}
-use Rattle.vault_sql.specs.KnownLives.{AreBefore}
+use Rattle.vault_sql.specs.KnownCounts.{IsBefore}
 use Rattle.vault_sql.proofs.transaction.write.Given.{Over}
 use Rattle.vault_sql.proofs.transaction.write.Goals as goal
 
@@ -24,7 +24,7 @@ left_is g c = search rules
 -- before the commit all changes were written
 ready : (g : Over) (c : goal.After-map_err g) → HasCleanDisk (state g.S.Store c.commit.new.self.0)
     → (V : Vault) → Holds (state g.S.Store c.args.conn.now) V
-    → AreBefore c.args.ch.now.lives c.args.known.now (lookups_of V).merchants → Sound V → Fit V c.args.ch.now
+    → IsBefore c.args.ch.now.lives c.args.known.now (lookups_of V) → Sound V → Fit V c.args.ch.now
     → IsWithin newest (state g.S.Store c.write_caller.new.tx.conn.now)
     (state g.S.Store c.args.conn.now).committed
     (lookups_of (plus V c.args.ch.now))
@@ -49,11 +49,12 @@ returns-clause-done g c clean =
     let late = subst (λ h. HasCleanDisk (state g.S.Store h)) (sym (left_is g c)) clean in
     let old = state g.S.Store c.args.conn.now in
     subst (λ h. OnOk c.map_err.result
-    ((V : Vault) → Holds old V → AreBefore c.args.ch.now.lives c.args.known.now (lookups_of V).merchants
+    ((V : Vault) → Holds old V → IsBefore c.args.ch.now.lives c.args.known.now (lookups_of V)
     → Sound V → Fit V c.args.ch.now → Holds (state g.S.Store h) (plus V c.args.ch.now))) (left_is g c)
     (as_ok _ c.commit.result c.map_err.result c.map_err.ensures.variant
     (on_ok c.commit.result (c.commit.ensures.ok late) (λ done V h known sound fit.
-    held_after (plus V c.args.ch.now) (ready g c late V h known sound fit) done.1 c.commit.ensures.survives.limit)))
+    held_after (plus V c.args.ch.now) (ready g c late V h known sound fit) done.1
+    c.commit.ensures.survives.limit)))
 
 pub returns-clause-crash : goal.returns-clause-crash
 returns-clause-crash g c clean V h known sound fit =

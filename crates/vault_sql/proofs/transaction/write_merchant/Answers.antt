@@ -6,6 +6,6 @@ returns g c = record {
   same_reference = cc;
   done =
       makes_then
-      (makes_then c.in_ok-write_lives.ensures.done c.in_ok-write_count.ensures.done (λ h can. can.0)
-      (λ h can. can.1)) c.write_entry.ensures.done (λ h can. can) (λ h can. tt);
+      (makes_then c.in_ok-write_lives.ensures.done c.in_ok-write_count.ensures.done (λ h can. can.0.lives)
+      (λ h can. (can.0.made, can.1))) c.write_entry.ensures.done (λ h can. can) (λ h can. tt);
 }

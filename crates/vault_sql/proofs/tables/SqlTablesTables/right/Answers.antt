@@ -18,6 +18,12 @@ returns-in-Ok-clause-kept g c V held = (
   held.0,
   λ clean.
       let was = held.1 (omega (arith, c.in-Ok.ensures.reads.clean, clean)) in
-      let right = c.in-Ok.ensures.told clean V was.0 in
-      (((still_held c.in-Ok.ensures.reads V held).1 clean).0, (was.1.0, c.keep_right.ensures V was.1.1 right)),
+      let right = c.in-Ok.ensures.told clean V was.0 in (
+        ((still_held c.in-Ok.ensures.reads V held).1 clean).0,
+        (
+          was.1.0,
+          c.keep_right.ensures V was.1.1
+              right,
+        ),
+      ),
 )

@@ -1,5 +1,4 @@
 use Rattle.std.proofs.Common.{◌∙◌, ap, take}
-use Rattle.std.specs.Prelude.{Option}
 use Rattle.vault_wire.specs.Reading.{Kept, TakesIn}
 use Rattle.vault_wire.proofs.ReadingFacts.{goes_on}
 use Rattle.std.proofs.Common.{subst}
