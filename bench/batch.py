@@ -43,13 +43,12 @@ def batch(program, vault, asked, answers):
         return time.perf_counter() - start
 
 
-def tokenize(conn, request, number):
+def tokenize(conn, merchant, request, number):
     """One row's statements."""
     token = cards.token_for(request, number)
-    lives = same.read(conn, request, token)
-    same.write(conn, request, token, lives, number)
-    single_life, _, moment, _ = lives
-    return request, token, moment + single_life
+    same.read(conn, request, token)
+    same.write(conn, request, token, merchant, number)
+    return request, token, merchant.moment + merchant.life
 
 
 def answer_rows(conn, asked, answers):
@@ -58,9 +57,10 @@ def answer_rows(conn, asked, answers):
         reader, writer = csv.reader(given), csv.writer(taken, lineterminator="\n")
         assert next(reader) == HEADER
         writer.writerow(FIRST_LINE)
+        merchant = same.Merchant(conn, same.CALLER, same.TOKENIZE)
         for request, number, use in reader:
             assert cards.passes(number) and use == "single"
-            writer.writerow(tokenize(conn, int(request), number))
+            writer.writerow(tokenize(conn, merchant, int(request), number))
 
 
 def assert_answered(program, vault, asked, answers):

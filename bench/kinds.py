@@ -49,7 +49,7 @@ class Repeats:
         self.program, self.known = program, {}
 
     def of(self, path):
-        """Those of an object, as callgrind names it and their places; the program itself has no name there."""
+        """Those of an object, as callgrind names it, and their places; the program has no name there."""
         if path not in self.known:
             at, base = (self.program, BASE) if path == "???" else (path, 0)
             words = ["objdump", "-d", at]

@@ -1,4 +1,5 @@
 // The statements of single-use Tokenize commands, run by libsqlite3 in the order that the vault runs them.
+// What the vault remembers of a merchant is read once.
 //
 // same FILE N takes a file that the program vault_bench made, times N commands after those that it holds,
 // and prints the line that the program prints.
@@ -16,9 +17,10 @@ enum { MADE = 1, SINGLE = 1, TOKENIZE = 1, DIGITS = 11 };
 // A token: the drawn digits, one more, and the card's last four. A card number has as many.
 enum { TOKEN = DIGITS + 1 + 4 };
 
-// The lives of a merchant, its moment and its lead.
-struct lives {
-    int64_t single_life, multi_life, moment, lead_digits;
+// What is remembered of the merchant: the life of a single-use token, its moment, how many tokens were made,
+// and the rowid of that count.
+struct merchant {
+    int64_t single_life, moment, made, made_rowid;
 };
 
 // What the card check leaves of digits.
@@ -53,114 +55,91 @@ static void token_for(int64_t number, const char *card, char token[TOKEN + 1])
         token[DIGITS] = '1';
 }
 
-// The merchant's lives, which are there.
-static struct lives find_lives(void)
+// The caller has the right to make tokens, without an end.
+static void need_right(void)
 {
-    put_text(FIND_LIVES, 1, MERCHANT);
-    need(next_row(FIND_LIVES), "no merchant");
-    struct lives found = {number_in(FIND_LIVES, 0), number_in(FIND_LIVES, 1), number_in(FIND_LIVES, 2),
-                          number_in(FIND_LIVES, 3)};
-    need(!next_row(FIND_LIVES), "two merchants");
-    return found;
-}
-
-// How many tokens were made for the merchant.
-static int64_t find_made(void)
-{
-    int64_t made = 0;
-    put_text(FIND_COUNTS, 1, MERCHANT);
-    while (next_row(FIND_COUNTS))
-        if (number_in(FIND_COUNTS, 0) == MADE)
-            made = number_in(FIND_COUNTS, 1);
-    return made;
-}
-
-// What one Tokenize reads, each row fetched.
-static struct lives read_all(int64_t request, const char *token)
-{
-    struct lives found = find_lives();
-    find_made();
     put_text(FIND_RIGHT, 1, CALLER);
     put_text(FIND_RIGHT, 2, MERCHANT);
     put_number(FIND_RIGHT, 3, TOKENIZE);
     need(next_row(FIND_RIGHT), "no right");
     need(sqlite3_column_type(statements[FIND_RIGHT], 0) == SQLITE_NULL, "a right with an end");
     need(!next_row(FIND_RIGHT), "two rights");
+}
+
+// What is read once of the merchant, which is there and has made a token.
+static struct merchant find_merchant(void)
+{
+    struct merchant found = {0};
+    put_text(FIND_LIVES, 1, MERCHANT);
+    need(next_row(FIND_LIVES), "no merchant");
+    found.single_life = number_in(FIND_LIVES, 0);
+    found.moment = number_in(FIND_LIVES, 2);
+    need(!next_row(FIND_LIVES), "two merchants");
+    put_text(FIND_COUNT, 1, MERCHANT);
+    put_number(FIND_COUNT, 2, MADE);
+    need(next_row(FIND_COUNT), "no token was made");
+    found.made = number_in(FIND_COUNT, 0);
+    found.made_rowid = number_in(FIND_COUNT, 1);
+    need(!next_row(FIND_COUNT), "two counts");
+    need_right();
+    return found;
+}
+
+// What one Tokenize reads: there is no such record, and no such token.
+static void read_all(int64_t request, const char *token)
+{
     put_text(FIND_RECORD, 1, CALLER);
     put_number(FIND_RECORD, 2, request);
     run(FIND_RECORD);
     put_text(FIND_ENTRY, 1, MERCHANT);
     put_text(FIND_ENTRY, 2, token);
     run(FIND_ENTRY);
-    return found;
 }
 
-// Writes the merchant's lives, its moment and its lead where it has others.
-static void set_lives(const struct lives *lives)
+// One token more was made.
+static void raise_made(struct merchant *merchant)
 {
-    struct lives now = find_lives();
-    if (now.single_life == lives->single_life && now.multi_life == lives->multi_life
-        && now.moment == lives->moment && now.lead_digits == lives->lead_digits)
-        return;
-    put_text(PUT_MERCHANT, 1, MERCHANT);
-    put_number(PUT_MERCHANT, 2, lives->single_life);
-    put_number(PUT_MERCHANT, 3, lives->multi_life);
-    put_number(PUT_MERCHANT, 4, lives->moment);
-    put_number(PUT_MERCHANT, 5, lives->lead_digits);
-    run(PUT_MERCHANT);
+    merchant->made++;
+    put_text(SET_COUNT, 1, MERCHANT);
+    put_number(SET_COUNT, 2, MADE);
+    put_number(SET_COUNT, 3, merchant->made);
+    put_number(SET_COUNT, 4, merchant->made_rowid);
+    run(SET_COUNT);
+    need(sqlite3_changes(conn) == 1, "no count has the rowid");
 }
 
-// Raises a count, and adds it where there is none.
-static void raise_count(int kind)
+// The id of the number's card, which is there and used once more.
+static int64_t use_known(const char *number)
 {
-    put_text(RAISE_COUNT, 1, MERCHANT);
-    put_number(RAISE_COUNT, 2, kind);
-    run(RAISE_COUNT);
-    if (sqlite3_changes(conn) > 0)
-        return;
-    put_text(ADD_COUNT, 1, MERCHANT);
-    put_number(ADD_COUNT, 2, kind);
-    run(ADD_COUNT);
-}
-
-// The id of the number's card, or 0 where there is none; and its uses.
-static int64_t find_card(const char *number, int64_t *uses)
-{
-    int64_t found = 0;
     put_text(FIND_CARD, 1, MERCHANT);
     put_text(FIND_CARD, 2, number);
-    while (next_row(FIND_CARD)) {
-        found = number_in(FIND_CARD, 0);
-        *uses = number_in(FIND_CARD, 1);
-    }
-    return found;
+    need(next_row(FIND_CARD), "no card");
+    int64_t card = number_in(FIND_CARD, 0), uses = number_in(FIND_CARD, 1);
+    need(!next_row(FIND_CARD), "two cards");
+    put_number(SET_USES, 1, card);
+    put_number(SET_USES, 2, uses + 1);
+    run(SET_USES);
+    return card;
 }
 
-// The id of the number's card, which is used once more.
+// The id of the number's card, which is made or used once more.
 static int64_t use_card(const char *number)
 {
-    int64_t uses = 0, card = find_card(number, &uses);
-    if (card != 0) {
-        put_number(SET_USES, 1, card);
-        put_number(SET_USES, 2, uses + 1);
-        run(SET_USES);
-        return card;
-    }
     put_text(ADD_CARD, 1, MERCHANT);
     put_text(ADD_CARD, 2, number);
     run(ADD_CARD);
-    return find_card(number, &uses);
+    return sqlite3_changes(conn) == 1 ? sqlite3_last_insert_rowid(conn) : use_known(number);
 }
 
 // A new entry, of a card, that lives from the merchant's moment on. What is never bound is NULL: `revoked`.
-static void add_entry(const char *token, int64_t card, const struct lives *lives)
+static void add_entry(const char *token, int64_t card, const struct merchant *merchant)
 {
     put_text(ADD_ENTRY, 1, MERCHANT);
     put_text(ADD_ENTRY, 2, token);
     put_number(ADD_ENTRY, 3, card);
     put_number(ADD_ENTRY, 4, SINGLE);
-    put_number(ADD_ENTRY, 5, lives->moment);
-    put_number(ADD_ENTRY, 6, lives->moment + lives->single_life);
+    put_number(ADD_ENTRY, 5, merchant->moment);
+    put_number(ADD_ENTRY, 6, merchant->moment + merchant->single_life);
     run(ADD_ENTRY);
 }
 
@@ -175,16 +154,15 @@ static void add_record(int64_t request, const char *token)
 }
 
 // One Tokenize of a card of its own: what it reads, and what it writes in one transaction.
-static void tokenize(int64_t request)
+static void tokenize(int64_t request, struct merchant *merchant)
 {
     char card[TOKEN + 1], token[TOKEN + 1];
     card_for(request, card);
     token_for(request, card, token);
-    struct lives lives = read_all(request, token);
+    read_all(request, token);
     run(BEGIN);
-    set_lives(&lives);
-    raise_count(MADE);
-    add_entry(token, use_card(card), &lives);
+    raise_made(merchant);
+    add_entry(token, use_card(card), merchant);
     add_record(request, token);
     run(COMMIT);
 }
@@ -200,10 +178,11 @@ static int64_t microseconds(void)
 // The microseconds that so many commands take, at least one.
 static int64_t time_tokens(int64_t many)
 {
-    int64_t first = find_made() + 1;
+    struct merchant merchant = find_merchant();
+    int64_t first = merchant.made + 1;
     int64_t start = microseconds();
     for (int64_t number = first; number < first + many; number++)
-        tokenize(number);
+        tokenize(number, &merchant);
     int64_t spent = microseconds() - start;
     return spent > 0 ? spent : 1;
 }

@@ -1,6 +1,6 @@
 #!/usr/bin/env python3
 """The statements of single-use Tokenize commands, run by Python's sqlite3 in the order that the vault runs
-them.
+them. What the vault remembers of a merchant is read once.
 
 same.py FILE N takes a file that the program vault_bench made, times N commands after those that it holds,
 and prints the line that the program prints.
@@ -27,9 +27,9 @@ PUT_MERCHANT = (
     "INSERT INTO merchants3 VALUES (?1, ?2, ?3, ?4, ?5) ON CONFLICT (name)"
     " DO UPDATE SET single_life = ?2, multi_life = ?3, moment = ?4, lead_digits = ?5"
 )
-RAISE = "UPDATE counts SET total = total + 1 WHERE merchant = ?1 AND kind = ?2"
-ADD_COUNT = "INSERT INTO counts VALUES (?1, ?2, 1)"
-ADD_CARD = "INSERT INTO cards2 VALUES (NULL, ?1, ?2, 1)"
+COUNT_ID = "SELECT rowid FROM counts WHERE merchant = ?1 AND kind = ?2"
+SET_COUNT = "UPDATE counts SET total = ?3 WHERE rowid = ?4 AND merchant = ?1 AND kind = ?2"
+ADD_CARD = "INSERT OR IGNORE INTO cards2 VALUES (NULL, ?1, ?2, 1)"
 PUT_CARD = "INSERT INTO cards2 VALUES (?1, ?2, ?3, ?4)"
 SET_USES = "UPDATE cards2 SET uses = ?2 WHERE id = ?1"
 ADD_ENTRY = "INSERT INTO entries2 VALUES (?1, ?2, ?3, ?4, ?5, ?6, ?7)"
@@ -43,6 +43,7 @@ CALLER = "till-1"
 MERCHANT = "shop1"
 NUMBER = "4111111111111111"
 MADE = 1
+TOKENIZE = 1
 
 
 def opened(file):
@@ -57,56 +58,65 @@ def opened(file):
     return conn
 
 
+class Merchant:
+    """What is remembered of the merchant: its lives, its moment and its lead, and how many tokens were made,
+    with the rowid of that count. The caller has the right."""
+
+    def __init__(self, conn, caller, right):
+        ((self.life, self.multi_life, self.moment, self.lead),) = conn.execute(LIVES, (MERCHANT,)).fetchall()
+        self.made = dict(conn.execute(COUNTS, (MERCHANT,)).fetchall())[MADE]
+        ((self.rowid,),) = conn.execute(COUNT_ID, (MERCHANT, MADE)).fetchall()
+        assert conn.execute(RIGHT, (caller, MERCHANT, right)).fetchall() == [(None,)]
+
+    def go_on(self, conn, now):
+        """Its moment is this one, where it was before."""
+        if self.moment < now:
+            self.moment = now
+            conn.execute(PUT_MERCHANT, (MERCHANT, self.life, self.multi_life, self.moment, self.lead))
+
+    def raise_made(self, conn):
+        """One token more was made."""
+        self.made += 1
+        assert conn.execute(SET_COUNT, (MERCHANT, MADE, self.made, self.rowid)).rowcount == 1
+
+
 def read(conn, request, token):
-    """What one Tokenize reads, each row fetched: the merchant's lives, its moment and its lead."""
-    lives = conn.execute(LIVES, (MERCHANT,)).fetchall()[0]
-    conn.execute(COUNTS, (MERCHANT,)).fetchall()
-    assert conn.execute(RIGHT, (CALLER, MERCHANT, 1)).fetchall() == [(None,)]
+    """What one Tokenize reads: there is no such record, and no such token."""
     assert not conn.execute(RECORD, (CALLER, request)).fetchall()
     assert not conn.execute(ENTRY, (MERCHANT, token)).fetchall()
-    return lives
+
+
+def use_card(conn, number):
+    """The id of the number's card, which is used once more."""
+    made = conn.execute(ADD_CARD, (MERCHANT, number))
+    if made.rowcount == 1:
+        return made.lastrowid
+    ((card, uses),) = conn.execute(CARD, (MERCHANT, number)).fetchall()
+    conn.execute(SET_USES, (card, uses + 1))
+    return card
 
 
 def add_entry(conn, token, number, rest):
     """A new entry, and a use more of its number's card."""
-    found = conn.execute(CARD, (MERCHANT, number)).fetchall()
-    if found:
-        card, uses = found[0]
-        conn.execute(SET_USES, (card, uses + 1))
-    else:
-        conn.execute(ADD_CARD, (MERCHANT, number))
-        card, _ = conn.execute(CARD, (MERCHANT, number)).fetchall()[0]
-    conn.execute(ADD_ENTRY, (MERCHANT, token, card, *rest))
+    conn.execute(ADD_ENTRY, (MERCHANT, token, use_card(conn, number), *rest))
 
 
-def put_merchant(conn, lives):
-    """The merchant's lives, its moment and its lead, written where it has others."""
-    if conn.execute(LIVES, (MERCHANT,)).fetchall() != [lives]:
-        conn.execute(PUT_MERCHANT, (MERCHANT, *lives))
-
-
-def raise_count(conn, kind):
-    """A count that is raised by one, and begins at one where it has no row."""
-    if conn.execute(RAISE, (MERCHANT, kind)).rowcount == 0:
-        conn.execute(ADD_COUNT, (MERCHANT, kind))
-
-
-def write(conn, request, token, lives, number):
+def write(conn, request, token, merchant, number):
     """What one Tokenize of a card number writes, in one transaction."""
-    single_life, _, moment, _ = lives
     conn.execute("BEGIN")
-    put_merchant(conn, lives)
-    raise_count(conn, MADE)
-    add_entry(conn, token, number, (1, moment, moment + single_life, None))
+    merchant.raise_made(conn)
+    add_entry(conn, token, number, (1, merchant.moment, merchant.moment + merchant.life, None))
     conn.execute(ADD_RECORD, (CALLER, request, MERCHANT, token, 1))
     conn.execute("COMMIT")
 
 
-def tokenize_many(conn, first, many):
+def tokenize_many(conn, merchant, many):
+    first = merchant.made + 1
     for request in range(first, first + many):
         number = cards.number_of(request)
         token = cards.token_for(request, number)
-        write(conn, request, token, read(conn, request, token), number)
+        read(conn, request, token)
+        write(conn, request, token, merchant, number)
 
 
 def microseconds(start):
@@ -116,9 +126,9 @@ def microseconds(start):
 
 def time_tokens(file, many):
     conn = opened(file)
-    made = dict(conn.execute(COUNTS, (MERCHANT,)).fetchall()).get(MADE, 0)
+    merchant = Merchant(conn, CALLER, TOKENIZE)
     start = time.perf_counter()
-    tokenize_many(conn, made + 1, many)
+    tokenize_many(conn, merchant, many)
     spent = microseconds(start)
     conn.close()
     print(f"{many} commands in {spent} microseconds, {many * 1000000 // spent} a second")

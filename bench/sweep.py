@@ -67,15 +67,12 @@ def sweep(program, vault, merchant, purged):
     return spent
 
 
-def purge(conn, token):
+def purge(conn, merchant, token):
     """What one Purge reads, each row fetched, and what it writes, in one transaction."""
-    single_life, multi_life, moment, lead = conn.execute(same.LIVES, (same.MERCHANT,)).fetchall()[0]
-    conn.execute(same.COUNTS, (same.MERCHANT,)).fetchall()
-    assert conn.execute(same.RIGHT, (CALLER, same.MERCHANT, PURGE)).fetchall() == [(None,)]
     card, usage, birth, expires, revoked = conn.execute(same.ENTRY, (same.MERCHANT, token)).fetchall()[0]
     assert conn.execute(NUMBER_OF, (card,)).fetchall() and expires <= NOW
     conn.execute("BEGIN")
-    same.put_merchant(conn, (single_life, multi_life, max(moment, NOW), lead))
+    merchant.go_on(conn, NOW)
     conn.execute(same.ENTRY, (same.MERCHANT, token)).fetchall()
     conn.execute(same.PUT_ENTRY, (same.MERCHANT, token, None, usage, birth, expires, revoked))
     ((uses,),) = conn.execute(USES, (card,)).fetchall()
@@ -86,10 +83,9 @@ def purge(conn, token):
     conn.execute("COMMIT")
 
 
-def list_dead(conn, start):
-    """The first tokens that are dead, from a text on, with what a list reads."""
-    _, _, moment, _ = conn.execute(same.LIVES, (same.MERCHANT,)).fetchall()[0]
-    return conn.execute(FIND_DEAD, (same.MERCHANT, start, max(moment, NOW), LIST)).fetchall()
+def list_dead(conn, merchant, start):
+    """The first tokens that are dead, from a text on."""
+    return conn.execute(FIND_DEAD, (same.MERCHANT, start, max(merchant.moment, NOW), LIST)).fetchall()
 
 
 def opened_whole(vault):
@@ -106,16 +102,17 @@ def sweep_python(vault, dead):
     """The seconds of the same statements, without Python's start and the opening; and those of the lists,
     each from the first token of the one before on."""
     conn = opened_whole(vault)
+    merchant = same.Merchant(conn, CALLER, PURGE)
     first, purged, lists, start = "", 0, 0, time.perf_counter()
     while True:
         listing = time.perf_counter()
-        tokens = list_dead(conn, first)
+        tokens = list_dead(conn, merchant, first)
         lists += time.perf_counter() - listing
         if not tokens:
             break
         ((first,), *_) = tokens
         for (token,) in tokens:
-            purge(conn, token)
+            purge(conn, merchant, token)
         purged += len(tokens)
     spent = time.perf_counter() - start
     conn.close()
