@@ -5,7 +5,7 @@ over libsqlite3: run.sh builds what it wants, and calls it.
 N is how many commands are timed, BEFORE how many entries stand before them, CHECKED how many entries a file
 has that is checked, COUNTED how many commands are counted by valgrind and strace (0: none; 1000 at most, as
 many as a pipe answers), and ROUNDS how often each side is timed, in turn with the others and on a copy of the
-same file. PROGRAM, VAULT and SAME are the built programs.
+same file. PROGRAM, VAULT and SAME are the built programs; without PROGRAM the vault alone is left out.
 """
 
 import os
@@ -125,7 +125,7 @@ def command(sides, side, entries, many):
 
 def counted(sides, count, side, entries, many):
     """What a side counts for these commands and for none, or none where there is no such side."""
-    if side == "peer" and not sides.peer:
+    if side == "peer" and not sides.peer or side == "alone" and not sides.bench:
         return None
     return [count(*command(sides, side, entries, n), sides.folder) for n in (many, 0)]
 
@@ -146,7 +146,7 @@ def print_instructions(sides, before, many):
         ours[entries] = each[0]
         cells = ["-" if it is None else f"{it:,.0f}" for it in each]
         figures.print_line(entries, *cells, *machine_cells([found]))
-    if len(ours) > 1:
+    if len(ours) > 1 and sides.bench:
         least, most = min(ours), max(ours)
         growth = ours[most] / ours[least]
         print(f"\nThe vault's alone with {most} entries, in parts of those with {least}: {growth:.2f}")
@@ -200,11 +200,10 @@ def time_checks(sides, checked, how_often):
 def main():
     many, how_often, count = number("N", 2000), number("ROUNDS", 5), int(os.environ.get("COUNTED", 400) or 0)
     before, checked = numbers("BEFORE", "1000 100000"), numbers("CHECKED", "10000 100000")
-    programs = (os.path.abspath(os.environ[name]) for name in ("PROGRAM", "VAULT"))
-    peer = os.environ.get("SAME")
+    bench, vault, peer = (os.environ.get(name) for name in ("PROGRAM", "VAULT", "SAME"))
     print(f"{os.cpu_count()} cores, {how_often} rounds, {many} tokens a side; {count} are counted")
     with tempfile.TemporaryDirectory() as name:
-        sides = Sides(*programs, peer and os.path.abspath(peer), pathlib.Path(name))
+        sides = Sides(*(it and os.path.abspath(it) for it in (bench, vault, peer)), pathlib.Path(name))
         if before:
             time_tokens(sides, before, many, how_often)
         if before and count:

@@ -1,7 +1,8 @@
 #!/bin/sh
 # Times single-use tokens over a file, and a file's whole check, by the vault, by Python's sqlite3 and by C
 # over libsqlite3: builds what run.py wants, and calls it. PROGRAM is vault_bench and VAULT the vault's
-# program where they are built already. N, BEFORE, CHECKED, COUNTED and ROUNDS are run.py's.
+# program where they are built already. An empty ALONE leaves the vault alone out, and vault_bench isn't built.
+# N, BEFORE, CHECKED, COUNTED and ROUNDS are run.py's.
 set -eu
 here=$(cd "$(dirname "$0")" && pwd)
 program=${PROGRAM:-}
@@ -56,5 +57,5 @@ build_same() {
 
 build_same
 [ -n "$vault" ] || build_vault
-[ -n "$program" ] || build_program
+[ -n "$program" ] || [ -z "${ALONE-yes}" ] || build_program
 PROGRAM=$program VAULT=$vault SAME=$same python3 "$here/run.py"

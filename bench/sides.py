@@ -10,6 +10,7 @@ import sys
 import tempfile
 import time
 
+import cards
 import pipe
 
 HERE = pathlib.Path(__file__).resolve().parent
@@ -84,7 +85,8 @@ def parts(many):
 
 
 class Sides:
-    """The programs and the folder of one measure. Where there is no C peer, its path is empty."""
+    """The programs and the folder of one measure. Where there is no C peer, its path is empty; so is that of
+    the vault alone, which makes the files where it is there."""
 
     def __init__(self, bench, vault, peer, folder):
         self.bench, self.vault, self.peer, self.folder = bench, vault, peer, folder
@@ -93,8 +95,20 @@ class Sides:
         """The file with so many entries, which is made once."""
         path = self.folder / f"made{entries}.db"
         if not path.exists():
-            told(self.bench, path, "unknown", entries, 0)
+            if self.bench:
+                told(self.bench, path, "unknown", entries, 0)
+            else:
+                self.fill(path, entries)
         return path
+
+    def fill(self, path, entries):
+        """Makes a file with so many entries by the vault itself: one by a message, the others by a batch."""
+        pipe.made_vault(self.vault, path)
+        rows = "".join(f"{place},{cards.number_of(place)},single\n" for place in range(2, entries + 1))
+        words = [self.vault, "batch", path, "till-1", "shop1"]
+        given = f"request,number,use\n{rows}".encode()
+        subprocess.run(words, input=given, stdout=subprocess.DEVNULL, check=True)
+        assert_sound(self.vault, path, entries)
 
     def copy(self, entries):
         """A copy of that file, settled on the disk."""
@@ -115,7 +129,9 @@ class Sides:
         return many * 1000000 / max(1, int(spent[1]))
 
     def alone(self, entries, many):
-        """The commands a second of the vault, with no message."""
+        """The commands a second of the vault, with no message, or none."""
+        if not self.bench:
+            return None
         path = self.copy(entries)
         return self.rate((self.bench, path, "unknown", 0, many), path, entries, many)
 
