@@ -1,6 +1,8 @@
 """Cases of messages and of rows: a pipe, a service with clients side by side, a batch."""
 
+import bisect
 import contextlib
+import itertools
 import os
 import subprocess
 import threading
@@ -15,11 +17,11 @@ COMMON = ("back", "guest")
 
 
 @contextlib.contextmanager
-def started(words, more):
+def started(words, more, out=subprocess.PIPE):
     """The program with its input and its output; it is over at the end of a `with`."""
     pipe, words = subprocess.PIPE, [str(it) for it in words]
     environment = os.environ | more
-    process = subprocess.Popen(words, stdin=pipe, stdout=pipe, stderr=pipe, bufsize=0, env=environment)
+    process = subprocess.Popen(words, stdin=pipe, stdout=out, stderr=pipe, bufsize=0, env=environment)
     try:
         yield process
     finally:
@@ -115,21 +117,17 @@ def serve(story, disk, path, many, more):
 
 
 def batch(story, disk, path, many, more):
-    """Rows of a batch, whose lines are read as they come."""
+    """Rows of a batch, whose lines go into a file: which of them were there at an event, the event tells."""
     shop, merchant = story.shop, story.shop.merchant()
     commands, fixed = rows_of(shop, many, merchant), shop.moment()
-    asked = disk.now
-    with started([shop.program, "batch", "--now", fixed, path, "till-1", merchant], more) as process:
+    asked, words = disk.now, [shop.program, "batch", "--now", fixed, path, "till-1", merchant]
+    with open(disk.answers, "wb") as answers, started(words, more, answers) as process:
         process.stdin.write((HEADER + "".join(map(row, commands))).encode())
-        process.stdin.close()
-        process.stdin = None
-        process.stdout.readline()
-        text, left = b"", list(commands)
-        while piece := os.read(process.stdout.fileno(), 65536):
-            came, (*lines, text) = disk.now, (text + piece).split(b"\n")
-            for line in lines:
-                command = left.pop(0)
-                story.tell([command], [line_reply(command, line)], [fixed], asked, came)
-        for command in left:
-            story.tell([command], [], [fixed], asked, None)
         over(story, process, (0, 1))
+    said, lines = disk.said(), disk.answers.read_bytes().splitlines(keepends=True)
+    ends = list(itertools.accumulate(map(len, lines)))
+    for command, line, end in zip(commands, lines[1:], ends[1:]):
+        answer, came = line_reply(command, line.rstrip(b"\n")), bisect.bisect_left(said, end)
+        story.tell([command], [answer], [fixed], asked, came)
+    for command in commands[max(0, len(lines) - 1):]:
+        story.tell([command], [], [fixed], asked, None)

@@ -1,8 +1,10 @@
 """A disk that writes down what comes to it: one file over FUSE, on which a loop device lies. It is a program
-of its own, since who waits for its disk can't serve it: python3 -m cuts.device IMAGE FOLDER EVENTS COUNT
+of its own, since who waits for its disk can't serve it:
+python3 -m cuts.device IMAGE FOLDER EVENTS COUNT ANSWERS
 
 IMAGE holds the bytes, and FOLDER is where the file `disk` appears. EVENTS gets each write and each flush
-before it is answered, in order; COUNT is a file of 8 bytes that says how many they are."""
+before it is answered, in order; COUNT is a file of 8 bytes that says how many they are. ANSWERS is what a
+program has said: each event tells how long it was by then."""
 
 import ctypes
 import errno
@@ -19,8 +21,8 @@ UNANSWERED = (FORGET, INTERRUPT, BATCH_FORGET)
 ROOT, DISK = 1, 2
 HEAD, ANSWER = struct.Struct("<IIQQIIIHH"), struct.Struct("<IiQ")
 MOST_WRITTEN, BIG_WRITES = 131072, 1 << 5
-# An event: how many bytes it has, or FLUSHED, and where they are.
-EVENT, FLUSHED = struct.Struct("<qq"), -1
+# An event: how many bytes it has, or FLUSHED, where they are, and how many bytes of answers there were.
+EVENT, FLUSHED = struct.Struct("<qqq"), -1
 LONG = 3600
 
 
@@ -37,8 +39,8 @@ def mounted(folder):
 class Device:
     """The file, and what it writes down."""
 
-    def __init__(self, image, events, count):
-        self.image = os.open(image, os.O_RDWR)
+    def __init__(self, image, events, count, answers):
+        self.image, self.answers = os.open(image, os.O_RDWR), os.open(answers, os.O_RDONLY)
         self.size = os.fstat(self.image).st_size
         self.events = open(events, "wb", buffering=0)
         self.count = mmap.mmap(os.open(count, os.O_RDWR), 8)
@@ -46,7 +48,7 @@ class Device:
 
     def note(self, size, offset, text=b""):
         """Writes an event down. It is counted before anybody may know that it is over."""
-        self.events.write(EVENT.pack(size, offset) + text)
+        self.events.write(EVENT.pack(size, offset, os.fstat(self.answers).st_size) + text)
         self.many += 1
         self.count[:] = struct.pack("=q", self.many)
 
@@ -128,8 +130,8 @@ KINDS = {
 }
 
 
-def main(image, folder, events, count):
-    device = Device(image, events, count)
+def main(image, folder, events, count, answers):
+    device = Device(image, events, count, answers)
     fd = mounted(folder)
     print("mounted", flush=True)
     device.serve(fd)

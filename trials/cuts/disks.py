@@ -80,20 +80,23 @@ def mounted(system, image, folder):
 
 class Recorded:
     """A disk that writes down what comes to it, mounted for the time of a `with`. `now` is how many writes
-    and flushes have come by then, and `events` has them afterwards."""
+    and flushes have come by then, and `events` has them afterwards. `answers` is a file for what a program
+    says, so that each event tells how much of it was said."""
 
     def __init__(self, system, image, place):
         self.system, self.image = system, image
         self.disk, self.fuse = place / "recorded.img", beside(place, "fuse")
         self.folder = beside(place, "recorded")
-        self.written, self.counted = place / "events", place / "count"
+        self.written, self.counted, self.answers = (place / it for it in ("events", "count", "answers"))
 
     def __enter__(self):
         self.image.write(self.disk)
         self.counted.write_bytes(bytes(8))
+        self.answers.write_bytes(b"")
         with open(self.counted, "r+b") as file:
             self.count = mmap.mmap(file.fileno(), 8)
-        words = [sys.executable, "-m", "cuts.device", self.disk, self.fuse, self.written, self.counted]
+        files = self.disk, self.fuse, self.written, self.counted, self.answers
+        words = [sys.executable, "-m", "cuts.device", *files]
         self.process = subprocess.Popen(words, stdout=subprocess.PIPE)
         self.process.stdout.readline()
         fault = mount_fault(self.system, self.fuse / "disk", self.folder)
@@ -122,6 +125,10 @@ class Recorded:
     @property
     def now(self):
         return struct.unpack("=q", self.count[:])[0]
+
+    def said(self):
+        """How many bytes of answers there were at each event so far."""
+        return [event.said for event in events_of(self.written)]
 
 
 def made(system, place, fill):

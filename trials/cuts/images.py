@@ -12,10 +12,11 @@ WAYS = ("nothing", "everything", "some")
 
 
 class Event(NamedTuple):
-    """A write, or, without bytes, a flush."""
+    """A write, or, without bytes, a flush; and how many bytes of answers there were as it came."""
 
     offset: int
     text: bytes | None
+    said: int
 
 
 def events_of(path):
@@ -23,8 +24,8 @@ def events_of(path):
     found = []
     with open(path, "rb") as file:
         while head := file.read(EVENT.size):
-            size, offset = EVENT.unpack(head)
-            found.append(Event(offset, None if size == FLUSHED else file.read(size)))
+            size, offset, said = EVENT.unpack(head)
+            found.append(Event(offset, None if size == FLUSHED else file.read(size), said))
     return found
 
 
@@ -94,7 +95,7 @@ class Past:
     def settle(self):
         """All that came by now is on the disk for good."""
         for event in self.later:
-            self.lasting.put(*event)
+            self.lasting.put(event.offset, event.text)
         self.later = []
 
     def cut(self, random, way):
@@ -104,7 +105,7 @@ class Past:
             sectors = range(len(event.text) // SECTOR)
             lot = "whole" if way == "everything" else random.choice(("whole", "nothing", "torn"))
             if lot == "whole":
-                image.put(*event)
+                image.put(event.offset, event.text)
             elif lot == "torn":
-                image.put(*event, lost={it for it in sectors if random.random() < share})
+                image.put(event.offset, event.text, lost={it for it in sectors if random.random() < share})
         return image
