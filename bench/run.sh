@@ -8,8 +8,8 @@ here=$(cd "$(dirname "$0")" && pwd)
 program=${PROGRAM:-}
 vault=${VAULT:-}
 same=
-crates='sql_maps sql_stored vault_refusal vault_pan vault_core vault_rules vault_store vault_schema vault_tables'
-crates="$crates vault_cards vault_steps vault_rows vault_sql vault_verdict vault_recover vault_migrate vault_blank"
+crates='sql_tables vault_refusal vault_pan vault_core vault_rules vault_store vault_schema vault_tables'
+crates="$crates vault_steps vault_sql vault_verdict vault_recover vault_migrate vault_blank"
 crates="$crates vault_file"
 
 for tool in python3 /usr/bin/time; do

@@ -40,7 +40,7 @@ gzip -9n "$root/usr/share/man/man1/vault.1"
 place 644 "$here/vault.bash-completion" /usr/share/bash-completion/completions/vault
 doc=/usr/share/doc/vault
 examples=/usr/share/vault/examples
-for page in OPERATING.md SCALE.md STANDBY.md API.md REFUSALS.md PROVED.md MODEL.md DEFINITIONS.md TRIALS.md \
+for page in OPERATING.md SCALE.md STANDBY.md API.md REFUSALS.md PROVED.md MODEL.md TRIALS.md \
     LIMITS.md DECISIONS.md openapi.yaml; do
     place 644 "$top/docs/$page" "$doc/$page"
 done

@@ -1,67 +1,62 @@
 #!/bin/sh
-# The list of all definitions, from the comments in specs/. Without words it prints the page; with `--check` it
-# says whether docs/DEFINITIONS.md is that page, and with `--write` it makes it so.
+# Prints the definitions of specs/ that have these names: where each stands, its comment and its text. Without a
+# name it lists all public ones. With `--check` it says whether each has a comment.
 set -eu
 cd "$(dirname "$0")/.."
-page=docs/DEFINITIONS.md
 
-# The definitions of one file of specs: their names, and the comment above them. A name without a comment of its
-# own belongs to the comment before it.
-of_file() {
-    awk '
-        function flush() { if (names != "") printf "- %s: %s\n", names, said; names = ""; said = "" }
-        BEGIN { top = 1 }
-        /^ *--/ {
-            line = $0; sub("^ *-- ?", "", line)
-            comment = (comment == "") ? line : comment " " line
-            next
-        }
-        top && comment != "" { printf "%s\n\n", comment; comment = "" }
+# The public definitions of all specs: name, file and line, and 1 behind a comment that isn't the file's own. An
+# indented `pub` alone is a field of a record.
+definitions() {
+    find crates/*/specs -name '*.antt' ! -name Lib.antt | LC_ALL=C sort | xargs awk '
+        FNR == 1 { top = 1; said = 0 }
+        /^ *--/ { said = !top; next }
         { top = 0 }
-        /^ *(abbrev |unfoldable )?pub / && !/^ *pub (use|mod) / {
-            at = match($0, /[^ ]/) - 1
+        /^( *(abbrev|unfoldable) pub | *pub (record|data) |pub )/ && !/^ *pub (use|mod) / {
             name = $0
-            is_field = at > 0 && name !~ /^ *(abbrev|unfoldable) / && name !~ /^ *pub (record|data) /
-            if (!is_field) {
-                sub("^ *(abbrev |unfoldable )?pub (record |data )?", "", name)
-                sub("[ :({].*", "", name)
-                if (comment != "") { flush(); said = comment }
-                if (said != "") names = (names == "") ? "`" name "`" : names ", `" name "`"
-            }
+            sub("^ *((abbrev|unfoldable) )?pub ((record|data) )?", "", name)
+            sub("[ :({].*", "", name)
+            print name, FILENAME, FNR, said
         }
-        { comment = "" }
-        END { flush() }
+    '
+}
+
+# The comment of the definition on this line of a file, and its text. Without a comment of its own it belongs to
+# the one before it.
+shown() {
+    awk -v line="$2" '
+        function printed(from, to) { for (; from <= to; from++) print lines[from] }
+        { lines[FNR] = $0 }
+        END {
+            for (first = line; lines[first - 1] != ""; first--) continue
+            for (last = line; lines[last + 1] != ""; last++) continue
+            for (below = line; below > 1 && lines[below] !~ /^ *--/; below--) continue
+            for (above = below; lines[above - 1] ~ /^ *--/; above--) continue
+            if (below < first) printed(above, below)
+            printed(first, last)
+        }
     ' "$1"
 }
 
-listing() {
-    echo '# All definitions'
-    echo
-    echo 'Each public definition of `specs/`, with the comment that stands above it there. `docs/model.sh --write` makes this page; [MODEL.md](MODEL.md) says which of them to read first.'
-    cut -d: -f1 crates.txt | while read -r crate; do
-        [ -d "crates/$crate/specs" ] || continue
-        echo
-        echo "## $crate"
-        find "crates/$crate/specs" -name '*.antt' ! -name Lib.antt | LC_ALL=C sort | while read -r file; do
-            told=$(of_file "$file")
-            # a file whose definitions are all of another one
-            [ -n "$(printf '%s\n' "$told" | sed -n '/^- /p')" ] || continue
-            name=${file#"crates/$crate/specs/"}
-            printf '\n### %s\n\n%s\n' "${name%.antt}" "$told"
+case ${1:-} in
+'') definitions | sed 's/ .$//' | LC_ALL=C sort ;;
+--check)
+    definitions | awk '
+        $4 == 0 { failed++; printf "%s:%d: %s has no comment\n", $2, $3, $1 }
+        $4 == 1 { passed++ }
+        END { printf "%d passed, %d failed\n", passed, failed; exit failed > 0 }
+    '
+    ;;
+*)
+    for wanted in "$@"; do
+        places=$(definitions | grep "^$wanted ") || {
+            echo "no public definition of specs is named $wanted" >&2
+            exit 1
+        }
+        printf '%s\n' "$places" | while read -r _ file line _; do
+            echo "$file:$line"
+            shown "$file" "$line"
+            echo
         done
     done
-}
-
-case ${1:-} in
---check)
-    if [ "$(listing)" = "$(cat "$page")" ]; then
-        echo '1 passed, 0 failed'
-    else
-        echo "$page is not what the specs say: sh docs/model.sh --write"
-        echo '0 passed, 1 failed'
-        exit 1
-    fi
     ;;
---write) listing > "$page.new" && mv "$page.new" "$page" ;;
-*) listing ;;
 esac

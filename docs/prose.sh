@@ -40,7 +40,6 @@ measured() {
 passed=0
 failed=0
 for page in README.md docs/*.md bench/*.md trials/README.md; do
-    [ "$page" = docs/DEFINITIONS.md ] && continue
     sizes=$(measured "$page")
     words=${sizes%% *}
     rest=${sizes#* }

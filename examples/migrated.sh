@@ -4,19 +4,16 @@
 set -eu
 . "$(dirname "$0")/shared/steps.sh"
 need sqlite3
+need python3
 
-# Makes a file with the tables of schema 1, in the order of the programs that made them.
+# The tables that came with a schema, as the programs that had it made them.
+tables_of() {
+    python3 "$here/../trials/shared/schemas.py" "$1" "$1"
+}
+
+# Makes a file with the tables of schema 1.
 make_older() {
-    sqlite3 -bail "$1" <<'END'
-CREATE TABLE vault (id INTEGER PRIMARY KEY, version INTEGER NOT NULL) STRICT;
-CREATE TABLE merchants (name TEXT NOT NULL PRIMARY KEY, single_life INTEGER NOT NULL, multi_life INTEGER NOT NULL, moment INTEGER NOT NULL) STRICT;
-CREATE TABLE counts (merchant TEXT NOT NULL, kind INTEGER NOT NULL, total INTEGER NOT NULL, PRIMARY KEY (merchant, kind)) STRICT;
-CREATE TABLE entries (merchant TEXT NOT NULL, token TEXT NOT NULL, number TEXT, usage INTEGER NOT NULL, birth INTEGER NOT NULL, expires INTEGER NOT NULL, revoked INTEGER, PRIMARY KEY (merchant, token)) STRICT;
-CREATE INDEX entries_number ON entries (merchant, number);
-CREATE TABLE records (caller TEXT NOT NULL, request INTEGER NOT NULL, merchant TEXT NOT NULL, token TEXT NOT NULL, usage INTEGER NOT NULL, PRIMARY KEY (caller, request)) STRICT;
-CREATE TABLE rights (caller TEXT NOT NULL, merchant TEXT NOT NULL, what INTEGER NOT NULL, PRIMARY KEY (caller, merchant, what)) STRICT;
-INSERT INTO vault VALUES (1, 1);
-END
+    sqlite3 -bail "$1" "$(tables_of 1) INSERT INTO vault VALUES (1, 1);"
 }
 
 # Two merchants: a number under two tokens of the one and a token of the other, and a purged entry.
@@ -112,12 +109,7 @@ step "as the empty vault" 'sound 0 0 0 (0)' "$(checked new.db)"
 # The same shops as programs of schemas 2 and 3 left them.
 cp shops.db shops2.db
 sqlite3 -bail shops2.db <<END
-CREATE TABLE cards2 (id INTEGER PRIMARY KEY, merchant TEXT NOT NULL, number TEXT NOT NULL, \
-uses INTEGER NOT NULL, UNIQUE (merchant, number)) STRICT;
-CREATE TABLE entries2 (merchant TEXT NOT NULL, token TEXT NOT NULL, card INTEGER, \
-usage INTEGER NOT NULL, birth INTEGER NOT NULL, expires INTEGER NOT NULL, revoked INTEGER, \
-PRIMARY KEY (merchant, token)) STRICT;
-CREATE INDEX entries2_card ON entries2 (merchant, card);
+$(tables_of 2)
 INSERT INTO cards2 SELECT NULL, merchant, number, count(*) FROM entries
 WHERE number IS NOT NULL GROUP BY merchant, number;
 INSERT INTO entries2 SELECT e.merchant, token, c.id, usage, birth, expires, revoked
@@ -127,8 +119,7 @@ UPDATE vault SET version = 2;
 END
 cp shops2.db shops3.db
 sqlite3 -bail shops3.db <<END
-CREATE TABLE merchants3 (name TEXT NOT NULL PRIMARY KEY, single_life INTEGER NOT NULL, \
-multi_life INTEGER NOT NULL, moment INTEGER NOT NULL, lead_digits INTEGER NOT NULL) STRICT;
+$(tables_of 3)
 INSERT INTO merchants3 SELECT name, single_life, multi_life, moment, CASE name WHEN 'shop1' THEN 8 ELSE 6 END
 FROM merchants;
 DELETE FROM merchants;

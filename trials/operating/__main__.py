@@ -10,6 +10,7 @@ import sys
 from operating.page import blocks
 from shared.asking import Asked
 from shared.machine import Machine, says
+from shared.schemas import tables
 from shared.tally import Tally, unlike
 
 NUMBER = "4111111111111111"
@@ -108,11 +109,11 @@ ls /var/backups/vault/*.sound | wc -l
 
 
 def older(repository, path):
-    """Leaves a file of schema 1 with its rows, by the statements of the example that moves one."""
+    """Leaves a file of schema 1, with the rows of the example that moves one."""
     source = open(f"{repository}/examples/migrated.sh").read()
+    rows = re.search(r"<<'END'\n(.*?)\nEND\n", source, flags=re.S)[1]
     with sqlite3.connect(path) as store:
-        for text in re.findall(r"<<'END'\n(.*?)\nEND\n", source, flags=re.S)[:2]:
-            store.executescript(text)
+        store.executescript(f"{tables(1)}INSERT INTO vault VALUES (1, 1);\n{rows}")
     store.close()
 
 

@@ -1,37 +1,42 @@
-"""The tables of a vault's file as the programs make them, by the schema that first has them. A statement ends
-with its line. They stand here once for all trials and timings."""
+"""The tables of a vault's file as the programs make them, by the schema that first has them, from the texts of
+the program's own source. A statement ends with its line.
 
-FIRST = """\
-CREATE TABLE vault (id INTEGER PRIMARY KEY, version INTEGER NOT NULL) STRICT;
-CREATE TABLE merchants (name TEXT NOT NULL PRIMARY KEY, single_life INTEGER NOT NULL, \
-multi_life INTEGER NOT NULL, moment INTEGER NOT NULL) STRICT;
-CREATE TABLE counts (merchant TEXT NOT NULL, kind INTEGER NOT NULL, total INTEGER NOT NULL, \
-PRIMARY KEY (merchant, kind)) STRICT;
-CREATE TABLE entries (merchant TEXT NOT NULL, token TEXT NOT NULL, number TEXT, \
-usage INTEGER NOT NULL, birth INTEGER NOT NULL, expires INTEGER NOT NULL, revoked INTEGER, \
-PRIMARY KEY (merchant, token)) STRICT;
-CREATE INDEX entries_number ON entries (merchant, number);
-CREATE TABLE records (caller TEXT NOT NULL, request INTEGER NOT NULL, merchant TEXT NOT NULL, \
-token TEXT NOT NULL, usage INTEGER NOT NULL, PRIMARY KEY (caller, request)) STRICT;
-CREATE TABLE rights (caller TEXT NOT NULL, merchant TEXT NOT NULL, what INTEGER NOT NULL, \
-PRIMARY KEY (caller, merchant, what)) STRICT;
+schemas.py FIRST LAST prints those that came with these schemas and between them.
 """
-CARDS = """\
-CREATE TABLE cards2 (id INTEGER PRIMARY KEY, merchant TEXT NOT NULL, number TEXT NOT NULL, \
-uses INTEGER NOT NULL, UNIQUE (merchant, number)) STRICT;
-CREATE TABLE entries2 (merchant TEXT NOT NULL, token TEXT NOT NULL, card INTEGER, \
-usage INTEGER NOT NULL, birth INTEGER NOT NULL, expires INTEGER NOT NULL, revoked INTEGER, \
-PRIMARY KEY (merchant, token)) STRICT;
-CREATE INDEX entries2_card ON entries2 (merchant, card);
-"""
-LEADS = """\
-CREATE TABLE merchants3 (name TEXT NOT NULL PRIMARY KEY, single_life INTEGER NOT NULL, \
-multi_life INTEGER NOT NULL, moment INTEGER NOT NULL, lead_digits INTEGER NOT NULL) STRICT;
-"""
-ENDS = """\
-CREATE TABLE rights4 (caller TEXT NOT NULL, merchant TEXT NOT NULL, what INTEGER NOT NULL, \
-ends INTEGER, PRIMARY KEY (caller, merchant, what)) STRICT;
-"""
+
+import pathlib
+import re
+import sys
+
+SOURCES = pathlib.Path(__file__).resolve().parents[2] / "crates" / "vault_tables" / "src"
+
+
+def text_of(file, name):
+    """The text of a constant of the program, on one line."""
+    text = re.search(rf'^pub const {name}: &str =\s*"([^"]*)";$', (SOURCES / file).read_text(), re.MULTILINE)[1]
+    return re.sub(r"\\\n\s*", "", text)
+
+
+def texts_of(*constants):
+    return "".join(text_of(*one) + ";\n" for one in constants)
+
+
+FIRST = texts_of(
+    ("versions.rt", "CREATE_VAULT"),
+    ("merchants/old.rt", "CREATE_OLD_MERCHANTS"),
+    ("counts.rt", "CREATE_COUNTS"),
+    ("entries/old.rt", "CREATE_OLD_ENTRIES"),
+    ("entries/old.rt", "CREATE_OLD_ENTRIES_NUMBER"),
+    ("records.rt", "CREATE_RECORDS"),
+    ("rights/old.rt", "CREATE_OLD_RIGHTS"),
+)
+CARDS = texts_of(
+    ("cards.rt", "CREATE_CARDS"),
+    ("entries.rt", "CREATE_ENTRIES"),
+    ("entries.rt", "CREATE_ENTRIES_CARD"),
+)
+LEADS = texts_of(("merchants.rt", "CREATE_MERCHANTS"))
+ENDS = texts_of(("rights.rt", "CREATE_RIGHTS"))
 # What each step to a newer schema makes, from the first on.
 STEPS = (FIRST, CARDS, LEADS, ENDS)
 # A table of no vault.
@@ -41,3 +46,8 @@ FOREIGN = "CREATE TABLE notes (line TEXT)"
 def tables(version):
     """The tables of a file of a schema, those that it replaced among them."""
     return "".join(STEPS[:version])
+
+
+if __name__ == "__main__":
+    first, last = map(int, sys.argv[1:])
+    print("".join(STEPS[first - 1 : last]), end="")

@@ -12,7 +12,7 @@ use Rattle.vault_core.specs.Tokens.{earlier_request, drawing, token_again, life_
 use Rattle.vault_core.specs.Tokens.{new_request, repetition, tokenize}
 use Rattle.vault_core.specs.Vault.{Merchant, Vault as Content, entitled, entry_at, made_count, merchant_at}
 use Rattle.vault_core.specs.Vault.{record_at, time_at}
-use Rattle.vault_core.specs.Table.{command_of, token_request}
+use Rattle.vault_core.specs.Parts.{command_of, token_request}
 use Rattle.vault_core.specs.declared.command.TokenRequest.{TokenRequest}
 use Rattle.vault_core.specs.declared.limit.TheConstants.{MOST_TOKENS}
 use Rattle.vault_core.specs.declared.reply.Reply.TheVariants.{Token}

@@ -12,7 +12,7 @@ use Rattle.std.specs.declared.cmp.Ordering.{Ordering}
 use Rattle.std.specs.declared.cmp.Ordering.TheVariants.{Less, Equal, Greater}
 use Rattle.vault_core.specs.Dead.{dead_tokens, is_dead}
 use Rattle.vault_core.specs.Keys.{Bytes, bytes_cmp, entry_cmp}
-use Rattle.vault_core.specs.Named.{token_command}
+use Rattle.vault_core.specs.Parts.{token_command}
 use Rattle.vault_core.specs.Outcome.{Outcome, entry_change, plain_refusal}
 use Rattle.vault_core.specs.Retire.{purging, without_number}
 use Rattle.vault_core.specs.Table.{after, reply}

@@ -9,7 +9,8 @@ use Rattle.vault_pan.specs.CardText.{same}
 use Rattle.vault_core.specs.Keys.{Bytes, bytes_cmp}
 use Rattle.vault_core.specs.Lives.{new_merchant, setting, with_lives}
 use Rattle.vault_core.specs.Merchants.{granting, withdrawal, set_from, set_to}
-use Rattle.vault_core.specs.Named.{token_command, merchant_of, denies}
+use Rattle.vault_core.specs.Parts.{token_command, command_of}
+use Rattle.vault_core.specs.Named.{merchant_of, denies}
 use Rattle.vault_core.specs.Outcome.{Outcome, plain_reply, plain_refusal, on_token}
 use Rattle.vault_core.specs.Redeem.{merchant_after_gift, merchant_after_denial}
 use Rattle.vault_core.specs.Refusals.{no_merchant, no_right, full}
@@ -17,7 +18,7 @@ use Rattle.vault_core.specs.Refusals.{token_purged, still_live, too_many_merchan
 use Rattle.vault_core.specs.Retire.{retirement, purging}
 use Rattle.vault_core.specs.Runs.{run}
 use Rattle.vault_core.specs.Show.{showing, totals}
-use Rattle.vault_core.specs.Table.{command_of, outcome, after}
+use Rattle.vault_core.specs.Table.{outcome, after}
 use Rattle.vault_core.specs.Tokens.{token_again, new_token}
 use Rattle.vault_core.specs.Tokens.{tokenize}
 use Rattle.vault_core.specs.Vault.{Vault, Merchant, merchant_at, entitled, made_count}

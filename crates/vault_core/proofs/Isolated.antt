@@ -7,12 +7,13 @@ use Rattle.vault_core.specs.Lives.{setting_in}
 use Rattle.vault_core.specs.Isolation.{AgreeAt, AgreeFor, StepsAreIsolated}
 use Rattle.vault_core.specs.Keys.{Bytes}
 use Rattle.vault_core.specs.Merchants.{granting, withdrawal}
-use Rattle.vault_core.specs.Named.{token_command, merchant_of, caller_of}
+use Rattle.vault_core.specs.Parts.{token_command, token_request}
+use Rattle.vault_core.specs.Named.{merchant_of, caller_of}
 use Rattle.vault_core.specs.Outcome.{plain_refusal}
 use Rattle.vault_core.specs.Redeem.{denial, redemption}
 use Rattle.vault_core.specs.Retire.{retirement, purging}
 use Rattle.vault_core.specs.Show.{showing, totals}
-use Rattle.vault_core.specs.Table.{outcome, token_request}
+use Rattle.vault_core.specs.Table.{outcome}
 use Rattle.vault_core.specs.Vault.{Vault, merchant_at}
 use Rattle.vault_core.specs.declared.limit.TheConstants.{MOST_MERCHANTS}
 use Rattle.vault_core.specs.declared.command.Command.{Command}

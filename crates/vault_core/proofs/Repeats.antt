@@ -11,7 +11,7 @@ use Rattle.vault_core.specs.Draw.{chosen_token}
 use Rattle.vault_core.specs.Keys.{Bytes, bytes_cmp}
 use Rattle.vault_core.specs.Laws.{IsSameRequest, RepeatsAnswerFirst}
 use Rattle.vault_core.specs.Merchants.{granting, withdrawal}
-use Rattle.vault_core.specs.Named.{token_command}
+use Rattle.vault_core.specs.Parts.{token_command, command_of, token_request}
 use Rattle.vault_core.specs.Outcome.{Outcome, plain_reply, plain_refusal, of_merchant, entry_change}
 use Rattle.vault_core.specs.Proper.{AllProper}
 use Rattle.vault_core.specs.Repeats.{current, is_repeat, is_number_of, reusable, same_use}
@@ -19,7 +19,7 @@ use Rattle.vault_core.specs.Retire.{retirement, revoked_entry, purging, without_
 use Rattle.vault_core.specs.Runs.{run}
 use Rattle.vault_core.specs.Show.{showing, totals}
 use Rattle.vault_core.specs.Sound.{Sound, IsNumber}
-use Rattle.vault_core.specs.Table.{after, command_of, token_request}
+use Rattle.vault_core.specs.Table.{after}
 use Rattle.vault_core.specs.Tokens.{earlier_request, repetition, new_request, token_again, new_token}
 use Rattle.vault_core.specs.Tokens.{new_entry, tokenize}
 use Rattle.vault_core.specs.Vault.{Vault, Merchant, merchant_at, entry_at, record_at, entitled, made_count}

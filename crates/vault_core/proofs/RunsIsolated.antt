@@ -12,7 +12,8 @@ use Rattle.vault_core.specs.Named.{merchant_of}
 use Rattle.vault_core.specs.Outcome.{plain_refusal}
 use Rattle.vault_core.specs.Refusals.{too_many_merchants}
 use Rattle.vault_core.specs.Runs.{replies}
-use Rattle.vault_core.specs.Table.{command_of, token_request, reply, after}
+use Rattle.vault_core.specs.Parts.{command_of, token_request}
+use Rattle.vault_core.specs.Table.{reply, after}
 use Rattle.vault_core.specs.Vault.{Vault, merchant_at}
 use Rattle.vault_core.specs.declared.limit.TheConstants.{MOST_MERCHANTS}
 use Rattle.vault_core.specs.declared.command.Command.{Command}

@@ -16,13 +16,13 @@ use Rattle.vault_core.specs.Laws.{StaysSound}
 use Rattle.vault_core.specs.Lives.{AreLives, new_merchant, with_lives}
 use Rattle.vault_core.specs.Merchants.{granting, set_from, set_to}
 use Rattle.vault_core.specs.Name.{IsName}
-use Rattle.vault_core.specs.Named.{token_command}
+use Rattle.vault_core.specs.Parts.{token_command, token_request}
 use Rattle.vault_core.specs.Outcome.{Outcome, plain_refusal, moved_vault}
 use Rattle.vault_core.specs.Proper.{IsProper}
 use Rattle.vault_core.specs.Repeats.{current, is_reusable, reusable, same_use}
 use Rattle.vault_core.specs.Scalar.{IsLife, IsMoment, IsRequest}
 use Rattle.vault_core.specs.Sound.{Sound, IsSoundEntry}
-use Rattle.vault_core.specs.Table.{after, token_request}
+use Rattle.vault_core.specs.Table.{after}
 use Rattle.vault_core.specs.Tokens.{token_again, new_token}
 use Rattle.vault_core.specs.Tokens.{new_entry, life_asked, tokenize}
 use Rattle.vault_core.specs.Vault.{Vault, Merchant, merchant_at, entry_at, made_count}

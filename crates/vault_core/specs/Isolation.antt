@@ -6,7 +6,8 @@ use Rattle.vault_core.specs.Keys.{Bytes}
 use Rattle.vault_core.specs.Named.{merchant_of, caller_of}
 use Rattle.vault_core.specs.Refusals.{too_many_merchants}
 use Rattle.vault_core.specs.Runs.{replies}
-use Rattle.vault_core.specs.Table.{command_of, reply, after}
+use Rattle.vault_core.specs.Parts.{command_of}
+use Rattle.vault_core.specs.Table.{reply, after}
 use Rattle.vault_core.specs.Vault.{Vault, merchant_at, entry_at, record_at, entitled}
 use Rattle.vault_core.specs.declared.command.Command.{Command}
 use Rattle.vault_core.specs.declared.command.TokenRequest.{TokenRequest}

@@ -1,46 +1,43 @@
--- Who asks what of whom: the parts of a command on a token, and a command's merchant and caller.
-use Rattle.std.specs.Prelude.{◌||◌, ◌==◌, ℕ, Bool, false, [], Option, Some, None, option_map}
-use Rattle.std.specs.Option.{option_map_or}
+-- Who asks what of whom: a command's merchant and caller, and which refusals of it are counted.
+use Rattle.std.specs.Prelude.{◌||◌, ◌==◌, ℕ, Bool, false, Option, Some, None}
 use Rattle.vault_core.specs.Keys.{Bytes}
+use Rattle.vault_core.specs.Parts.{parts_of}
 use Rattle.vault_core.specs.Refusals.{no_right, no_token, token_purged, token_revoked, token_expired}
 use Rattle.vault_core.specs.declared.command.Command.{Command}
-use Rattle.vault_core.specs.declared.command.Command.TheVariants.{SetMerchant, Grant, Withdraw, Tokenize}
-use Rattle.vault_core.specs.declared.command.Command.TheVariants.{Detokenize, View, Revoke, Purge, Audit}
-use Rattle.vault_core.specs.declared.command.TokenCommand.{TokenCommand}
-use Rattle.vault_core.specs.declared.right.Right.{Right}
-use Rattle.vault_core.specs.declared.right.Right.TheVariants as right
+use Rattle.vault_core.specs.declared.command.Command.TheVariants as command
+use Rattle.vault_core.specs.declared.parts.Parts.{Parts}
+use Rattle.vault_core.specs.declared.parts.Parts.TheVariants.{SetMerchant, Grant, Withdraw, Tokenize}
+use Rattle.vault_core.specs.declared.parts.Parts.TheVariants.{Detokenize, View, Revoke, Purge, Audit}
 
--- the parts of a command on one token, with the right that it asks for
-abbrev pub token_command : Bytes → Bytes → Bytes → Right → ℕ → TokenCommand
-token_command caller m token right now =
-    record { caller = caller; merchant = m; token = token; right = right; moment = now }
+-- the merchant that parts name
+abbrev pub merchant_in : Parts → Bytes
+merchant_in (SetMerchant m x) = m
+merchant_in (Grant caller m right until now) = m
+merchant_in (Withdraw caller m right now) = m
+merchant_in (Tokenize a) = a.merchant
+merchant_in (Detokenize t) = t.merchant
+merchant_in (View t) = t.merchant
+merchant_in (Revoke t) = t.merchant
+merchant_in (Purge t) = t.merchant
+merchant_in (Audit caller m now) = m
 
--- the command of a kind with these parts
-abbrev pub command_by : (Bytes → Bytes → Bytes → ℕ → Command) → TokenCommand → Command
-command_by kind t = kind t.caller t.merchant t.token t.moment
-
--- the parts of a command, where it is one on a token
-abbrev pub token_command_in : Command → Option TokenCommand
-token_command_in (Detokenize caller m token now) = Some (token_command caller m token right.Detokenize now)
-token_command_in (View caller m token now) = Some (token_command caller m token right.View now)
-token_command_in (Revoke caller m token now) = Some (token_command caller m token right.Revoke now)
-token_command_in (Purge caller m token now) = Some (token_command caller m token right.Purge now)
-token_command_in c = None
-
--- the merchant that a command names; the last row is that of the commands on a token
+-- the merchant that a command names
 abbrev pub merchant_of : Command → Bytes
-merchant_of (SetMerchant m single multi lead now) = m
-merchant_of (Grant caller m right until now) = m
-merchant_of (Withdraw caller m right now) = m
-merchant_of (Tokenize caller m request usage pan digits now) = m
-merchant_of (Audit caller m now) = m
-merchant_of c = option_map_or (λ t. t.merchant) (token_command_in c) []
+merchant_of c = merchant_in (parts_of c)
 
--- the caller that makes a command, one on a token or another; whoever sets merchants and rights is none
+-- the caller who asks; whoever sets merchants and rights is none
+abbrev pub caller_in : Parts → Option Bytes
+caller_in (Tokenize a) = Some a.caller
+caller_in (Detokenize t) = Some t.caller
+caller_in (View t) = Some t.caller
+caller_in (Revoke t) = Some t.caller
+caller_in (Purge t) = Some t.caller
+caller_in (Audit caller m now) = Some caller
+caller_in p = None
+
+-- the caller that makes a command
 abbrev pub caller_of : Command → Option Bytes
-caller_of (Tokenize caller m request usage pan digits now) = Some caller
-caller_of (Audit caller m now) = Some caller
-caller_of c = option_map (λ t. t.caller) (token_command_in c)
+caller_of c = caller_in (parts_of c)
 
 -- the refusals by which a number is denied: 8 and 13 to 16
 abbrev pub denies : ℕ → Bool
@@ -50,5 +47,5 @@ denies number =
 
 -- whether a refusal is a denial, which is counted: a number was asked for, of a merchant that is known
 abbrev pub is_denial : Command → ℕ → Bool
-is_denial (Detokenize caller m token now) number = denies number
+is_denial (command.Detokenize caller m token now) number = denies number
 is_denial c number = false

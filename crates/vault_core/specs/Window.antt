@@ -1,21 +1,21 @@
 -- The rows that a command needs.
-use Rattle.std.specs.Prelude.{◌≡◌, ℕ, Option, Some, None, IfSome, IfNone, false, option_map}
+use Rattle.std.specs.Prelude.{◌≡◌, ℕ, Option, Some, None, IfNone, false, option_map}
 use Rattle.std.specs.Option.{option_map_or}
 use Rattle.std.specs.FinMap as map
 use Rattle.vault_core.specs.Draw.{chosen_token}
 use Rattle.vault_core.specs.Keys.{Bytes}
 use Rattle.vault_core.specs.Lives.{counted_row, lives_in, row_lives}
-use Rattle.vault_core.specs.Named.{token_command_in}
+use Rattle.vault_core.specs.Parts.{parts_of}
 use Rattle.vault_core.specs.Repeats.{record_with_entry, current, reusable}
 use Rattle.vault_core.specs.Scalar.{IsLife}
-use Rattle.vault_core.specs.Table.{token_request}
 use Rattle.vault_core.specs.Vault.{Vault, Merchant, merchant_at, entry_at, entitled, made_count, time_at}
 use Rattle.vault_core.specs.Vault.{life_for}
 use Rattle.vault_core.specs.declared.command.Command.{Command}
-use Rattle.vault_core.specs.declared.command.Command.TheVariants.{SetMerchant, Grant, Withdraw, Tokenize}
-use Rattle.vault_core.specs.declared.command.Command.TheVariants.{Audit}
 use Rattle.vault_core.specs.declared.command.TokenCommand.{TokenCommand}
 use Rattle.vault_core.specs.declared.command.TokenRequest.{TokenRequest}
+use Rattle.vault_core.specs.declared.parts.Parts.{Parts}
+use Rattle.vault_core.specs.declared.parts.Parts.TheVariants.{SetMerchant, Grant, Withdraw, Tokenize}
+use Rattle.vault_core.specs.declared.parts.Parts.TheVariants.{Detokenize, View, Revoke, Purge, Audit}
 use Rattle.vault_core.specs.declared.right.Right.TheVariants as right
 use Rattle.vault_core.specs.declared.row.MerchantRow.{MerchantRow}
 use Rattle.vault_core.specs.declared.window.Window.{Window}
@@ -52,18 +52,22 @@ pub record ShowsToken (V : Vault) (t : TokenCommand) (w : Window) : Type 0 where
   pub right : w.right ≡ entitled V t.caller t.merchant t.right (moment_at V t.merchant t.moment)
   pub named : w.named ≡ entry_at V t.merchant t.token
 
--- the window shows what the vault holds at the places that the command needs; the last row is that of the
--- commands on a token
-abbrev pub IsWindow : Vault → Command → Window → Type 0
-IsWindow V (SetMerchant m single multi lead now) w =
-    (w.merchant ≡ row_at V m) × (w.merchants ≡ map.len V.merchants)
-IsWindow V (Grant caller m right until now) w = w.merchant ≡ row_at V m
-IsWindow V (Withdraw caller m right now) w = w.merchant ≡ row_at V m
-IsWindow V (Tokenize caller m request usage pan digits now) w =
-    ShowsRequest V (token_request caller m request usage pan digits now) w
-IsWindow V (Audit caller m now) w =
+-- what the vault holds at the places that these parts need
+abbrev pub ShowsParts : Vault → Parts → Window → Type 0
+ShowsParts V (SetMerchant m x) w = (w.merchant ≡ row_at V m) × (w.merchants ≡ map.len V.merchants)
+ShowsParts V (Grant caller m right until now) w = w.merchant ≡ row_at V m
+ShowsParts V (Withdraw caller m right now) w = w.merchant ≡ row_at V m
+ShowsParts V (Tokenize a) w = ShowsRequest V a w
+ShowsParts V (Detokenize t) w = ShowsToken V t w
+ShowsParts V (View t) w = ShowsToken V t w
+ShowsParts V (Revoke t) w = ShowsToken V t w
+ShowsParts V (Purge t) w = ShowsToken V t w
+ShowsParts V (Audit caller m now) w =
     (w.merchant ≡ row_at V m) × (w.right ≡ entitled V caller m right.Audit (moment_at V m now))
-IsWindow V c w = IfSome (token_command_in c) (λ t. ShowsToken V t w)
+
+-- the window shows what the vault holds at the places that the command needs
+abbrev pub IsWindow : Vault → Command → Window → Type 0
+IsWindow V c w = ShowsParts V (parts_of c) w
 
 -- nothing is shown
 abbrev pub empty_window : Window

@@ -1,8 +1,7 @@
 //! The commands of a vault.
 ghost use Rattle.std.specs.Prelude.{IsTrue, ◌↔◌, ◌≡◌};
 ghost use Rattle.vault_core.specs.Lives.{setting as setting_lem};
-ghost use Rattle.vault_core.specs.Named.{token_command, token_command_in};
-ghost use Rattle.vault_core.specs.Table.{token_request};
+ghost use Rattle.vault_core.specs.Parts.{token_command, token_command_in, token_request};
 
 use crate::limit::LONGEST_LIFE;
 use crate::moment::Moment;

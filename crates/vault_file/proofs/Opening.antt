@@ -30,7 +30,7 @@ use Rattle.vault_schema.specs.declared.version.Version.{Version}
 use Rattle.vault_schema.specs.Stands.{newest}
 use Rattle.vault_verdict.proofs.Judged.{full_in}
 use Rattle.vault_schema.specs.Holds.{Holds, HoldsIn}
-use Rattle.sql_maps.specs.Schema.{no_schema}
+use Rattle.sql_tables.specs.Schema.{no_schema}
 use Rattle.vault_schema.specs.Stands.{Stands}
 
 -- what is there isn't missing

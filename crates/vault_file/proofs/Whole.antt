@@ -14,8 +14,8 @@ use Rattle.sqlite_disk.specs.declared.Disk.{Ghosts}
 use Rattle.sqlite_store.specs.FileStore as files
 use Rattle.sqlite_store.specs.declared.store.FileStore.{FileStore}
 use Rattle.sqlite_wal.specs.Recovery.{Image}
-use Rattle.sql_maps.specs.Schema.{no_schema}
-use Rattle.sql_maps.specs.States.{LeavesNoMore}
+use Rattle.sql_tables.specs.Schema.{no_schema}
+use Rattle.sql_tables.specs.States.{LeavesNoMore}
 use Rattle.vault_file.specs.Closed.{ReopensAs}
 use Rattle.vault_file.specs.Found.{LeavesWhole, MayFindNone, StaysWhole}
 use Rattle.vault_file.specs.Moved.{MayFindOlder}

@@ -30,7 +30,7 @@ use Rattle.vault_schema.specs.Holds.{AreOurs, Holds, LeavesEither, LeavesFirst}
 use Rattle.sqlite.specs.Schema.{Schema}
 use Rattle.sqlite_catalog.specs.Listing.{IsSound}
 use Rattle.sqlite_store.specs.FileStore as files
-use Rattle.sql_maps.specs.Schema.{no_schema}
+use Rattle.sql_tables.specs.Schema.{no_schema}
 use Rattle.vault_schema.specs.Schema.{newest_schema}
 
 -- no file's name: nothing at all, `:memory:`, and what begins with `file:`

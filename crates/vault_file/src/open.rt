@@ -14,8 +14,8 @@ use crate::paths::Paths;
 use crate::reopen::{close, settled, told};
 use sqlite::{Connection, FileStore};
 use sqlite_disk::Disk;
+use vault_migrate::open::open;
 use vault_recover::options::Cache;
-use vault_sql::open::open;
 use vault_sql::tables::SqlTables;
 use vault_store::vault::Vault;
 use vault_verdict::fault::OpenFault;
@@ -31,7 +31,7 @@ pub type TablesAt<P> = SqlTables<FileStore<<P as Paths>::Disk>>;
 /// name, can't be made, read and written, or is no database; and also where memory ran out before there
 /// was a connection, which looks the same. Such a file is as it was, but beside one that is no database an
 /// empty log may stay: to take it away isn't safe, since a program that opens the file now may use it.
-/// Refused by 30 to 33 as `vault_sql::open` refuses.
+/// Refused by 30 to 33 as `vault_migrate::open` refuses.
 pub fn open_from<P: Paths>(
     rt: &HostRuntime,
     path: &str,

@@ -10,7 +10,7 @@ ghost use Rattle.vault_verdict.specs.Names.{IsOf};
 
 use sqlite::{Connection, FileStore};
 use sqlite_disk::Disk;
-use vault_schema::v1::shape::has_version;
+use vault_tables::versions::has_version;
 use vault_verdict::names::{Holder, holder_in};
 
 /// What a crash leaves of a connection that is open is its last commit, and nothing else.

@@ -5,19 +5,19 @@ use Rattle.sqlite.specs.Order.{Row}
 use Rattle.sqlite.specs.Tree.{Trees}
 use Rattle.sqlite_rules.proofs.ProbeLemmas.{has_mapped, mapped_has}
 use Rattle.sqlite_rules.specs.Lists.{Has}
-use Rattle.sql_maps.specs.Rows.{AreRowsOf}
-use Rattle.sql_maps.specs.States.{StandsIn}
+use Rattle.sql_tables.specs.Rows.{AreRowsOf}
+use Rattle.sql_tables.specs.States.{StandsIn}
 use Rattle.std.specs.List.Sorted.{IsPermutation}
 use Rattle.vault_core.specs.Keys.{Bytes}
 use Rattle.vault_core.specs.Vault.{Vault, entry_at}
 use Rattle.vault_core.specs.declared.row.Entry.{Entry}
 use Rattle.vault_verdict.proofs.InTree.{in_items, in_tree}
 use Rattle.vault_verdict.specs.Opened.{AreOldersIn}
-use Rattle.vault_verdict.specs.Raw.{old_entry_values}
-use Rattle.vault_verdict.specs.declared.replaced.OldEntry.{OldEntry}
-use Rattle.vault_schema.proofs.Version1.Codes.{entry_codes}
+use Rattle.vault_tables.specs.EntryTexts.{old_entry_values}
+use Rattle.vault_tables.specs.declared.entries.old.OldEntry.{OldEntry}
+use Rattle.vault_schema.proofs.EntryCodes.{entry_codes}
 use Rattle.vault_schema.specs.Stands.{lookups_of}
-use Rattle.vault_schema.specs.Version1.Rows.{entry_row}
+use Rattle.vault_schema.specs.Entries.{entry_row}
 use Rattle.vault_schema.proofs.ByTable.{first_entries}
 use Rattle.vault_schema.specs.Layers.{Either}
 use Rattle.vault_schema.specs.Versions.{Stand, StandJoined, has_cards, schema_of, uncarded_claims}

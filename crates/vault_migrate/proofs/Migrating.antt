@@ -2,7 +2,7 @@
 use Rattle.std.proofs.Common.{◌≡◌, ◌∙◌, ℤ, false, Result, subst, sym}
 use Rattle.sqlite.specs.Held.{Held, state}
 use Rattle.sqlite_trees.specs.declared.store.Store.{Ghosts}
-use Rattle.sql_maps.specs.Transactions.{KeepsDoubts}
+use Rattle.sql_tables.specs.Transactions.{KeepsDoubts}
 use Rattle.vault_migrate.proofs.Moving.{broken_else, broken_in, each_err, held_newest, left_newest}
 use Rattle.vault_migrate.proofs.Moving.{movable_else, movable_in, never_blank, older_schema}
 use Rattle.vault_migrate.proofs.Moving.{version_else, version_in}

@@ -9,7 +9,7 @@ use mathlib.Core.List.{reverse-append}
 use Rattle.vault_core.specs.Keys.{Bytes}
 use Rattle.vault_core.specs.declared.row.Entry.{Entry}
 use Rattle.vault_steps.specs.Entries.{AreStorable, joined}
-use Rattle.vault_verdict.specs.declared.replaced.OldEntry.{OldEntry}
+use Rattle.vault_tables.specs.declared.entries.old.OldEntry.{OldEntry}
 use Rattle.vault_migrate.specs.Typed.{old_columns, typed_columns}
 
 -- an entry more, with its merchant and its token

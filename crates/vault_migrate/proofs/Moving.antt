@@ -6,13 +6,13 @@ use Rattle.sqlite.specs.Effect.{Database, IsDatabase}
 use Rattle.sqlite.specs.Schema.{Schema}
 use Rattle.sqlite.specs.State.{State, HasCleanDisk, IsUnchanged}
 use Rattle.sqlite.specs.Tree.{Trees}
-use Rattle.sql_maps.specs.Schema.{no_schema}
-use Rattle.sql_maps.specs.States.{LeavesNoMore}
+use Rattle.sql_tables.specs.Schema.{no_schema}
+use Rattle.sql_tables.specs.States.{LeavesNoMore}
 use Rattle.vault_core.specs.Vault.{Vault}
 use Rattle.vault_migrate.specs.Moved.{FindsBroken, FindsVersion, IsMovable, IsNoOlder, IsOlder}
 use Rattle.vault_migrate.specs.Moved.{IsSoundWhereFull, LeavesIn}
 use Rattle.vault_schema.proofs.Newest.{held_by_newest, newest_is, one_version, ours_in_newest}
-use Rattle.vault_schema.proofs.Versions.{last_commit}
+use Rattle.vault_schema.proofs.VersionLemmas.{last_commit}
 use Rattle.vault_schema.specs.Holds.{Holds, HoldsIn, LeavesEither}
 use Rattle.vault_schema.specs.Layers.{Either, is_from}
 use Rattle.vault_schema.specs.Left.{left_after}

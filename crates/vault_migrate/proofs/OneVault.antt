@@ -5,14 +5,15 @@ use Rattle.std.specs.FinMap as map
 use Rattle.std.specs.Option.{option_map_or}
 use Rattle.sqlite.specs.Order.{Row}
 use Rattle.sqlite.specs.Tree.{Trees}
-use Rattle.sql_maps.proofs.ByKey.{Coding}
+use Rattle.sql_tables.proofs.ByKey.{Coding}
 use Rattle.vault_core.specs.Keys.{Bytes}
 use Rattle.vault_core.specs.Vault.{Vault, Merchant, merchant_at}
 use Rattle.vault_core.specs.declared.right.Right.{Right}
 use Rattle.vault_verdict.proofs.Sources.{same_count}
-use Rattle.vault_schema.proofs.Version1.Codes as codes
-use Rattle.vault_schema.proofs.Version3 as three
-use Rattle.vault_schema.proofs.Version4 as four
+use Rattle.vault_schema.proofs.EntryCodes.{entry_coding}
+use Rattle.vault_schema.proofs.RecordCodes.{record_coding}
+use Rattle.vault_schema.proofs.MerchantCodes.{merchant_coding}
+use Rattle.vault_schema.proofs.RightCodes.{right_coding}
 use Rattle.vault_schema.specs.Versions.{Stand}
 use Rattle.vault_schema.specs.declared.version.Version.{Version}
 use Rattle.vault_steps.proofs.PartsByVersion.{one_stand}
@@ -45,10 +46,10 @@ module _ (V W : Vault) (merchants : (m : Bytes) → (lookups_of V).merchants m �
 
     same_vault : V ≡ W
     same_vault =
-        let all_merchants = one_map three.merchant_coding _ _ merchants_same in
-        let all_entries = one_map codes.entry_coding _ _ entries in
-        let all_records = one_map codes.record_coding _ _ records in
-        let all_rights = one_map four.right_coding _ _ rights in
+        let all_merchants = one_map merchant_coding _ _ merchants_same in
+        let all_entries = one_map entry_coding _ _ entries in
+        let all_records = one_map record_coding _ _ records in
+        let all_rights = one_map right_coding _ _ rights in
         λ i. record {
           merchants = all_merchants i;
           entries = all_entries i;

@@ -3,9 +3,9 @@ use Rattle.std.specs.Prelude.{◌≡◌, ◌≢◌, ℤ, false, Result, IfErr, O
 use Rattle.sqlite.specs.Held.{Held, state}
 use Rattle.sqlite.specs.State.{HasCleanDisk}
 use Rattle.sqlite_trees.specs.declared.store.Store.{Ghosts}
-use Rattle.sql_maps.specs.Schema.{no_schema}
-use Rattle.sql_maps.specs.States.{LeavesNoMore}
-use Rattle.sql_maps.specs.Transactions.{KeepsDoubts}
+use Rattle.sql_tables.specs.Schema.{no_schema}
+use Rattle.sql_tables.specs.States.{LeavesNoMore}
+use Rattle.sql_tables.specs.Transactions.{KeepsDoubts}
 use Rattle.vault_core.specs.Vault.{Vault, empty_vault}
 use Rattle.vault_migrate.specs.Moved.{FindsBroken, FindsVersion, HoldsSoundIn, IsMovable, IsNoOlder, IsOlder}
 use Rattle.vault_migrate.specs.Moved.{LeavesIn}

@@ -3,9 +3,9 @@ use Rattle.std.specs.Prelude.{drop}
 use Rattle.sqlite.specs.Order.{Row}
 use Rattle.vault_core.specs.Keys.{Bytes}
 use Rattle.vault_core.specs.declared.row.Entry.{Entry}
-use Rattle.vault_verdict.specs.Raw.{old_entry_values}
-use Rattle.vault_verdict.specs.declared.replaced.OldEntry.{OldEntry}
-use Rattle.vault_schema.specs.Version1.Rows.{entry_row}
+use Rattle.vault_tables.specs.EntryTexts.{old_entry_values}
+use Rattle.vault_tables.specs.declared.entries.old.OldEntry.{OldEntry}
+use Rattle.vault_schema.specs.Entries.{entry_row}
 
 -- the columns of an old entry behind its rowid
 abbrev pub old_columns : OldEntry → Row

@@ -4,4 +4,5 @@
 pub mod laws;
 pub mod migrate;
 mod movable;
+pub mod open;
 mod typed;

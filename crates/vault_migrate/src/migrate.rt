@@ -2,8 +2,8 @@
 ghost use Rattle.std.specs.Prelude.{◌≡◌, ◌<◌, false, None, IfOk, OnOk};
 ghost use Rattle.sqlite.specs.Held.{state};
 ghost use Rattle.sqlite.specs.State.{HasCleanDisk};
-ghost use Rattle.sql_maps.specs.Schema.{no_schema};
-ghost use Rattle.sql_maps.specs.Transactions.{KeepsDoubts};
+ghost use Rattle.sql_tables.specs.Schema.{no_schema};
+ghost use Rattle.sql_tables.specs.Transactions.{KeepsDoubts};
 ghost use Rattle.vault_migrate.specs.Migrated.{ChecksFit, HoldsMoved, HoldsSoundMoved, KeepsHeld};
 ghost use Rattle.vault_migrate.specs.Migrated.{LeavesMovedAlone, MakesBlank, Migrates, WritesNothingIn};
 ghost use Rattle.vault_migrate.specs.Migrated.{WritesNothingWhereSome};
@@ -26,11 +26,11 @@ ghost use Rattle.vault_schema.specs.Versions.{next_of, number_of, schema_of};
 use crate::movable::{judged, older_in};
 use sqlite::{Alter, Connection};
 use std::alloc::Global;
-use vault_rows::schema::{SchemaFault, make_schema};
-use vault_schema::v1::shape::has_version;
 use vault_schema::version::{NEWEST, Version};
 use vault_steps::climb::climb;
+use vault_steps::schema::{SchemaFault, make_schema};
 use vault_steps::upgrade::upgrade;
+use vault_tables::versions::has_version;
 use vault_verdict::check::check;
 use vault_verdict::fault::OpenFault;
 

@@ -20,6 +20,7 @@ use sqlite_schema::schema::Schema;
 use std::alloc::Global;
 use vault_schema::version::{NEWEST, Version};
 use vault_steps::entries::Piece;
+use vault_tables::versions::version_of;
 use vault_verdict::fault::OpenFault;
 use vault_verdict::verdict::{Judged, verdict};
 
@@ -32,7 +33,7 @@ pub(crate) fn older_in(schema: &Schema) -> Option<Version>
     // where none is given, the schema is no older version's
     ensures none { IfNone result ((v : Version) → IsOlder v → ¬ (schema.now ≡ schema_of v)) }
 {
-    match Version::of(schema) {
+    match version_of(schema) {
         Some(found) if !found.is_from(NEWEST) => Some(found),
         _ => None,
     }

@@ -1,125 +1,26 @@
 //! Old entries as the vault has them.
-ghost use Rattle.std.specs.Prelude.{◌≡◌, ◌≢◌, ◌<◌, ◌^◌, ◌↔◌, ◌++◌, [], ◌∷◌, ℕ, pos, drop, length, map};
-ghost use Rattle.std.specs.Prelude.{IfErr, IfOk, IsOk, OnOk};
+ghost use Rattle.std.specs.Prelude.{◌≡◌, ◌<◌, ◌^◌, ◌++◌, [], ◌∷◌, drop, length, map};
+ghost use Rattle.std.specs.Prelude.{IfOk, OnOk};
 ghost use Rattle.std.specs.List.{All};
-ghost use Rattle.vault_core.specs.Name.{IsName};
-ghost use Rattle.vault_core.specs.Numbers.{use_number};
 ghost use Rattle.vault_migrate.specs.Typed.{old_columns, typed_columns};
-ghost use Rattle.sql_stored.specs.Values.{int_value, maybe_text_value};
-ghost use Rattle.vault_verdict.specs.Raw.{old_entry_values};
-ghost use Rattle.vault_pan.specs.CardText.{IsToken};
-ghost use Rattle.vault_schema.specs.Version1.Rows.{entry_columns, number_or_null, text_or_null};
+ghost use Rattle.sql_tables.specs.Values.{int_value, maybe_text_value};
+ghost use Rattle.vault_tables.specs.EntryTexts.{old_entry_values};
+ghost use Rattle.vault_schema.specs.Entries.{entry_columns};
+ghost use Rattle.vault_schema.specs.Values.{number_or_null, text_or_null};
 ghost use Rattle.vault_steps.specs.Entries.{AreStorable, joined};
 
-use sql_stored::fault::StoreFault;
-use sql_stored::text::RowText;
+use sql_tables::fault::StoreFault;
 use std::alloc::{AllocError, Global};
 use vault_core::moment::Moment;
 use vault_core::name::MerchantId;
 use vault_core::row::Entry;
-use vault_core::usage::Use;
 use vault_pan::pan::Pan;
 use vault_pan::token::Token;
 use vault_steps::entries::{PIECE, Piece};
-use vault_verdict::replaced::OldEntry;
-
-/// The name of a merchant.
-fn merchant_of(text: &str) -> Result<MerchantId, StoreFault>
-    // the merchant is the text
-    ensures value { IfOk result (λ m. m ≡ text.now) }
-    // a text is refused exactly where it is no name
-    ensures refused { IsOk result ↔ IsName text.now }
-{
-    match MerchantId::read(text.as_bytes()) {
-        Ok(m) => Ok(m),
-        Err(_) => Err(StoreFault::Store),
-    }
-}
-
-/// A token.
-fn token_of(text: &str) -> Result<Token, StoreFault>
-    // the token is the text
-    ensures value { IfOk result (λ token. token ≡ text.now) }
-    // a text is refused exactly where it is no token
-    ensures refused { IsOk result ↔ IsToken text.now }
-{
-    match Token::read(text.as_bytes()) {
-        Ok(token) => Ok(token),
-        Err(_) => Err(StoreFault::Store),
-    }
-}
-
-/// A card number.
-fn number_of(text: &str) -> Result<Pan, StoreFault>
-    ensures { IfOk result (λ number. number ≡ text.now) }
-{
-    match Pan::read(text.as_bytes()) {
-        Ok(pan) if pan.as_str() == text => Ok(pan),
-        _ => Err(StoreFault::Store),
-    }
-}
-
-/// A card number, or none.
-fn maybe_number_of(text: &Option<RowText>) -> Result<Option<Pan>, StoreFault>
-    ensures { IfOk result (λ number. maybe_text_value text.now ≡ text_or_null number) }
-{
-    match text {
-        Some(text) => Ok(Some(number_of(text.as_str())?)),
-        None => Ok(None),
-    }
-}
-
-/// A use, by its number.
-fn usage_of(number: i64) -> Result<Use, StoreFault>
-    // the number is the use's
-    ensures value { IfOk result (λ usage. number ≡ pos (use_number usage)) }
-    // only a number that is neither 1 nor 2 is refused
-    ensures refused { IfErr result (λ e. (number ≢ pos 1) × (number ≢ pos 2)) }
-{
-    match number {
-        1 => Ok(Use::Single),
-        2 => Ok(Use::Multi),
-        _ => Err(StoreFault::Store),
-    }
-}
-
-/// A number of seconds.
-fn seconds_of(number: i64) -> Result<u64, StoreFault>
-    // the seconds are the number
-    ensures value { IfOk result (λ seconds. number ≡ pos seconds) }
-    // they are below 2^63
-    ensures small { IfOk result (λ seconds. seconds < 2 ^ 63) }
-    // only a number below 0 is refused
-    ensures refused { IfErr result (λ e. (n : ℕ) → number ≢ pos n) }
-{
-    if number < 0 {
-        return Err(StoreFault::Store);
-    }
-    Ok(number as u64)
-}
-
-/// A moment.
-fn moment_of(number: i64) -> Result<Moment, StoreFault>
-    // the moment is the number
-    ensures value { IfOk result (λ moment. number ≡ pos moment) }
-    // only a number below 0 or above 253402300799 is refused
-    ensures refused { IfErr result (λ e. (n : ℕ) → number ≡ pos n → 253402300799 < n) }
-{
-    match Moment::new(seconds_of(number)?) {
-        Ok(moment) => Ok(moment),
-        Err(_) => Err(StoreFault::Store),
-    }
-}
-
-/// A moment, or none.
-fn maybe_moment_of(number: Option<i64>) -> Result<Option<Moment>, StoreFault>
-    ensures { IfOk result (λ moment. int_value number ≡ number_or_null moment) }
-{
-    match number {
-        Some(number) => Ok(Some(moment_of(number)?)),
-        None => Ok(None),
-    }
-}
+use vault_tables::columns::{
+    maybe_moment_of, maybe_number_of, merchant_of, moment_of, seconds_of, token_of, usage_of,
+};
+use vault_tables::entries::old::OldEntry;
 
 /// An old entry's columns behind its key, with these values of those that may be NULL.
 fn entry_of(

@@ -6,7 +6,7 @@ use Rattle.std.specs.FinMap as map
 use Rattle.std.specs.Option.{option_map_or}
 use Rattle.vault_core.specs.Keys.{Bytes}
 use Rattle.vault_core.specs.Merchants.{granting, withdrawal}
-use Rattle.vault_core.specs.Named.{token_command}
+use Rattle.vault_core.specs.Parts.{token_command, token_request}
 use Rattle.vault_core.specs.Outcome.{Outcome, on_token, plain_reply, plain_refusal, of_token}
 use Rattle.vault_core.specs.Redeem.{denial, gift, redemption, merchant_after_denial, merchant_after_gift}
 use Rattle.vault_core.specs.Refusals.{no_merchant, no_right, no_token, full}
@@ -14,7 +14,7 @@ use Rattle.vault_core.specs.Refusals.{token_purged, token_revoked}
 use Rattle.vault_core.specs.Refusals.{token_expired}
 use Rattle.vault_core.specs.Retire.{retirement, purging}
 use Rattle.vault_core.specs.Show.{showing, totals}
-use Rattle.vault_core.specs.Table.{outcome, reply, token_request}
+use Rattle.vault_core.specs.Table.{outcome, reply}
 use Rattle.vault_core.specs.Tokens.{tokenize}
 use Rattle.vault_core.specs.Vault.{Vault as Content, Merchant, merchant_at, entry_at, entitled}
 use Rattle.vault_core.specs.Vault.{is_live, made_count, state_of, time_at}

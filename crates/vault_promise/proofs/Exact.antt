@@ -24,7 +24,7 @@ use Rattle.vault_core.specs.declared.command.Command.TheVariants.{Grant, Withdra
 use Rattle.vault_core.specs.declared.reply.Reply.TheVariants as answer
 use Rattle.vault_core.specs.declared.row.GrantRow.{GrantRow}
 use Rattle.vault_rights.specs.Named.{Row, row_cmp}
-use Rattle.vault_rows.proofs.Dead.{has_found}
+use Rattle.vault_sql.proofs.Dead.{has_found}
 use Rattle.vault_changes.specs.Changes.{Held, Key, changes_at, is_as_listed, is_held, is_listed, is_same_end}
 use Rattle.vault_changes.specs.Changes.{missing_rows, right_of, rights_of, surplus_rights, withdrawals_at}
 use Rattle.vault_changes.specs.Grants.{AreDone, grants_at}

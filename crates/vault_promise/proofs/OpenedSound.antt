@@ -1,7 +1,7 @@
 -- A run that works on a file found a sound vault in it, or no table.
 use Rattle.std.proofs.Common.{◌≡◌, ◌⊎◌, ℕ, Bool, List, Some, inl, inr, refl, arith, subst, true}
 use Rattle.clap.specs.Words.{Text}
-use Rattle.sql_maps.specs.Schema.{no_schema}
+use Rattle.sql_tables.specs.Schema.{no_schema}
 use Rattle.sqlite.specs.Files.{file_state}
 use Rattle.sqlite.specs.State.{HasCleanDisk, State}
 use Rattle.sqlite.specs.View.{IsClean}

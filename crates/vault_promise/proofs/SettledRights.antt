@@ -18,7 +18,7 @@ use Rattle.vault_core.specs.declared.command.Command.{Command}
 use Rattle.vault_engine.specs.Passing.{IsBefore, Passage}
 use Rattle.vault_listen.specs.Live.{Turns}
 use Rattle.vault_rights.specs.Named.{Row}
-use Rattle.vault_rows.proofs.Dead.{has_found}
+use Rattle.vault_sql.proofs.Dead.{has_found}
 use Rattle.vault_store.specs.declared.vault.Fault.{Fault}
 use Rattle.vault_store.specs.declared.vault.Fault.TheVariants.{Memory, Store, Reopen}
 use Rattle.vault_changes.specs.Changes.{Held, changes_at, is_held, is_listed, missing_rows}

@@ -1,7 +1,7 @@
 -- A file is opened only where its rows are those of a sound vault.
 use Rattle.std.specs.Prelude.{◌≡◌, ◌⊎◌, ℕ, Bool, List, Some}
 use Rattle.clap.specs.Words.{Text}
-use Rattle.sql_maps.specs.Schema.{no_schema}
+use Rattle.sql_tables.specs.Schema.{no_schema}
 use Rattle.sqlite.specs.View.{IsClean}
 use Rattle.sqlite_disk.specs.declared.Disk.{Ghosts}
 use Rattle.sqlite_store.specs.FileStore as files

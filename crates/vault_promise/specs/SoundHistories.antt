@@ -4,7 +4,8 @@ use Rattle.vault_pan.specs.Luhn.{passes_check}
 use Rattle.vault_core.specs.Keys.{Bytes}
 use Rattle.vault_core.specs.Laws.{HasOrPurged, IsSameRequest}
 use Rattle.vault_core.specs.Sound.{Sound}
-use Rattle.vault_core.specs.Table.{command_of, reply}
+use Rattle.vault_core.specs.Parts.{command_of}
+use Rattle.vault_core.specs.Table.{reply}
 use Rattle.vault_core.specs.Vault.{Vault as Content, empty_vault, entitled, entry_at, is_live}
 use Rattle.vault_core.specs.Window.{moment_at}
 use Rattle.vault_core.specs.Yields.{given_by}

@@ -6,12 +6,13 @@ use Rattle.std.specs.Option.{option_map_or}
 use Rattle.vault_pan.specs.CardText.{same}
 use Rattle.vault_core.specs.Keys.{Bytes, bytes_cmp}
 use Rattle.vault_core.specs.Merchants.{granting, withdrawal}
-use Rattle.vault_core.specs.Named.{merchant_of, token_command}
+use Rattle.vault_core.specs.Parts.{token_command, token_request}
+use Rattle.vault_core.specs.Named.{merchant_of}
 use Rattle.vault_core.specs.Outcome.{Outcome, plain_reply, plain_refusal}
 use Rattle.vault_core.specs.Refusals.{no_merchant, no_right}
 use Rattle.vault_core.specs.Retire.{retirement, purging}
 use Rattle.vault_core.specs.Show.{showing, totals}
-use Rattle.vault_core.specs.Table.{reply, token_request}
+use Rattle.vault_core.specs.Table.{reply}
 use Rattle.vault_core.specs.Vault.{Vault, Merchant, empty_vault, merchant_at, entitled, made_count, time_at}
 use Rattle.vault_core.specs.Yields.{given_by, gives_number}
 use Rattle.vault_core.specs.declared.command.Command.{Command}

@@ -11,7 +11,8 @@ use Rattle.vault_pan.specs.CardText.{same}
 use Rattle.vault_core.specs.Keys.{Bytes}
 use Rattle.vault_core.specs.Outcome.{Outcome}
 use Rattle.vault_core.specs.Sound.{Sound}
-use Rattle.vault_core.specs.Table.{command_of, after}
+use Rattle.vault_core.specs.Parts.{command_of}
+use Rattle.vault_core.specs.Table.{after}
 use Rattle.vault_core.specs.Vault.{Vault, empty_vault, record_at}
 use Rattle.vault_core.specs.declared.command.Command.{Command}
 use Rattle.vault_core.specs.declared.command.Command.TheVariants.{Tokenize}

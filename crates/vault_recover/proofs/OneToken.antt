@@ -9,7 +9,8 @@ use Rattle.vault_core.specs.Outcome.{plain_reply, plain_refusal, of_merchant}
 use Rattle.vault_core.specs.Refusals.{number_reused}
 use Rattle.vault_core.specs.Repeats.{is_repeat}
 use Rattle.vault_core.specs.Sound.{Sound}
-use Rattle.vault_core.specs.Table.{command_of, reply, after}
+use Rattle.vault_core.specs.Parts.{command_of}
+use Rattle.vault_core.specs.Table.{reply, after}
 use Rattle.vault_core.specs.Tokens.{earlier_request, repetition, new_request}
 use Rattle.vault_core.specs.Vault.{Vault, empty_vault, entry_at, record_at}
 use Rattle.vault_core.specs.declared.command.TokenRequest.{TokenRequest}

@@ -10,7 +10,7 @@ use Rattle.sqlite_store.specs.FileStore as files
 use Rattle.sqlite_store.specs.declared.store.FileStore.{FileStore}
 use Rattle.sqlite_trees.specs.Tree.{Trees}
 use Rattle.sqlite_wal.specs.Recovery.{Image}
-use Rattle.sql_maps.specs.Schema.{no_schema}
+use Rattle.sql_tables.specs.Schema.{no_schema}
 use Rattle.vault_core.specs.Vault.{Vault, empty_vault}
 use Rattle.vault_schema.specs.Holds.{AreEither, AreFirst, AreOurs, Holds}
 use Rattle.vault_schema.specs.Making.{IsReady}

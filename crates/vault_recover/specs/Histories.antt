@@ -10,7 +10,8 @@ use Rattle.vault_core.specs.Keys.{Bytes}
 use Rattle.vault_core.specs.Named.{merchant_of}
 use Rattle.vault_core.specs.Proper.{IsProper}
 use Rattle.vault_core.specs.Sound.{Sound}
-use Rattle.vault_core.specs.Table.{command_of, request_in, reply, after}
+use Rattle.vault_core.specs.Parts.{command_of, request_in}
+use Rattle.vault_core.specs.Table.{reply, after}
 use Rattle.vault_core.specs.Vault.{Vault, empty_vault}
 use Rattle.vault_core.specs.Yields.{given_by, gives_number}
 use Rattle.vault_core.specs.declared.command.Command.{Command}

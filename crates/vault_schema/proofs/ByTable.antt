@@ -1,20 +1,22 @@
 -- The rows that stand in a version, table by table.
 use Rattle.std.proofs.Common.{◌≡◌, ℕ, ℤ, List, ◌∷◌, true, false, Option, None, refl, subst}
 use Rattle.sqlite.specs.Tree.{Trees}
-use Rattle.sql_maps.specs.Rows.{AreRowsById, AreRowsOf}
-use Rattle.sql_maps.specs.States.{Claim, IsEmpty, StandsIn}
+use Rattle.sql_tables.specs.Rows.{AreRowsById, AreRowsOf}
+use Rattle.sql_tables.specs.States.{Claim, IsEmpty, StandsIn}
 use Rattle.vault_core.specs.Keys.{Bytes}
 use Rattle.vault_core.specs.declared.row.Entry.{Entry}
 use Rattle.vault_schema.proofs.Layers.{HoldAt, holds_at}
+use Rattle.vault_schema.specs.Cards.{card_columns}
+use Rattle.vault_schema.specs.Counts.{count_row}
+use Rattle.vault_schema.specs.Entries.{entry_row, pointing_row}
 use Rattle.vault_schema.specs.Layers.{Either, claim_or_empty, claims_at, claims_if, is_from}
-use Rattle.vault_schema.specs.Version1.Claims.{IsVersion}
-use Rattle.vault_schema.specs.Version1.Rows.{count_row, entry_row, record_row}
-use Rattle.vault_schema.specs.Version2.Rows.{card_columns, pointing_row}
+use Rattle.vault_schema.specs.Records.{record_row}
+use Rattle.vault_schema.specs.VersionRows.{IsVersion}
 use Rattle.vault_schema.specs.Versions.{Lookups, StandJoined, StandRows, has_cards, layers, schema_of}
 use Rattle.vault_schema.specs.Versions.{OldMerchants, OldRights, Tables, claims_of, natural_of, third_layers}
 use Rattle.vault_schema.specs.Versions.{tables_of, uncarded_claims}
-use Rattle.vault_schema.specs.declared.v2.Card.{Card}
-use Rattle.vault_schema.specs.declared.v2.Pointing.{Pointing}
+use Rattle.vault_schema.specs.declared.rows.Card.{Card}
+use Rattle.vault_schema.specs.declared.rows.Pointing.{Pointing}
 use Rattle.vault_schema.specs.declared.version.Version.{Version}
 use Rattle.vault_schema.specs.declared.version.Version.TheVariants.{Three, Four}
 

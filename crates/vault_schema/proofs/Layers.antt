@@ -3,13 +3,13 @@
 use Rattle.std.proofs.Common.{◌≡◌, ◌++◌, ◌&&◌, ◌∙◌, ℕ, zero, suc, Bool, true, false, not, List, [], ◌∷◌, map}
 use Rattle.std.proofs.Common.{append_assoc, cond, refl, sym}
 use Rattle.std.proofs.lemmas.Bool.{and_parts}
-use Rattle.std.specs.List.{list_all}
 use Rattle.std.proofs.lemmas.List.Elements.{filter-append}
+use Rattle.std.specs.List.{list_all}
 use Rattle.sqlite.specs.Table.{Table}
-use Rattle.sqlite_schema.specs.declared.schema.Index.{Index}
 use Rattle.sqlite.specs.Tree.{Trees}
-use Rattle.sql_maps.specs.Schema.{Descriptor, are_apart, guards_of, is_none, is_plain, table_of}
-use Rattle.sql_maps.specs.States.{StandsIn}
+use Rattle.sqlite_schema.specs.declared.schema.Index.{Index}
+use Rattle.sql_tables.specs.Schema.{Descriptor, are_apart, guards_of, is_none, is_plain, table_of}
+use Rattle.sql_tables.specs.States.{StandsIn}
 use Rattle.vault_schema.specs.Layers.{Layer, claim_in, claims_at, indexes_at, is_from, is_many, rank, said_if}
 use Rattle.vault_schema.specs.Layers.{schema_at, tables_at}
 use Rattle.vault_schema.specs.declared.version.Version.{Version}

@@ -6,10 +6,10 @@ use Rattle.sqlite.specs.Schema.{Schema}
 use Rattle.sqlite.specs.Table.{Table}
 use Rattle.sqlite.specs.Term.{Term, col, lit}
 use Rattle.sqlite.specs.declared.types.Value.TheVariants.{Int, Null}
-use Rattle.sql_maps.proofs.Full.{all_columns}
-use Rattle.sql_maps.specs.Schema.{Descriptor, table_of}
-use Rattle.sql_maps.specs.Texts.{IsWrite, MakesTable, delete, eq, insert_from, ordered_by}
-use Rattle.sql_maps.specs.Texts.{sorted_of, update}
+use Rattle.sql_tables.proofs.Full.{all_columns}
+use Rattle.sql_tables.specs.Schema.{Descriptor, table_of}
+use Rattle.sql_tables.specs.Texts.{IsWrite, MakesTable, delete, eq, insert_from, ordered_by, sorted_of}
+use Rattle.sql_tables.specs.Texts.{update}
 
 -- a table as its text defines it, before it has a tree
 abbrev pub treeless : Descriptor → Table

@@ -1,50 +1,46 @@
 -- The newest version: its tables, each by its key at its place, what its texts mean, and what a vault that is
 -- held there is. Of the versions themselves, what is to be seen one by one.
-use Rattle.std.proofs.Common.{◌≡◌, ◌∙◌, ◌-◌, ◌<◌, ◌==◌, ℕ, pos, true, false, cond, drop, length, List, []}
-use Rattle.std.proofs.Common.{◌∷◌, None, ap, arith, get_or, map, refl, subst, suc, sym, take, zero}
-use Rattle.sqlite.specs.Change.{created}
-use Rattle.sqlite.specs.Listing.{understood}
+use Rattle.std.proofs.Common.{◌≡◌, ◌∙◌, ◌-◌, ◌<◌, ◌==◌, ℕ, true, false, cond, drop, length, List, [], ◌∷◌}
+use Rattle.std.proofs.Common.{None, ap, arith, refl, subst, sym}
 use Rattle.sqlite.specs.Order.{Row}
 use Rattle.sqlite.specs.Schema.{Schema}
 use Rattle.sqlite.specs.State.{State}
 use Rattle.sqlite.specs.Table.{Table}
-use Rattle.sqlite.specs.Term.{lit}
 use Rattle.sqlite.specs.Tree.{Trees}
-use Rattle.sqlite.specs.declared.types.Value.TheVariants.{Int, Null}
 use Rattle.sqlite_schema.specs.declared.schema.Index.{Index}
-use Rattle.sqlite_tied.specs.Compute.{everything}
-use Rattle.sql_maps.proofs.ByKey.{Coding, no_rows}
-use Rattle.sql_maps.proofs.ById.{ById}
-use Rattle.sql_maps.proofs.Grown.{keyed_in_grown}
-use Rattle.sql_maps.proofs.Keys.{Keyed}
-use Rattle.sql_maps.specs.Rows.{AreRowsById, AreRowsOf}
-use Rattle.sql_maps.specs.Schema.{grown}
-use Rattle.sql_maps.specs.States.{Claim, StandsIn}
-use Rattle.sql_maps.specs.Texts.{IsWrite, MakesTable, insert}
+use Rattle.sql_tables.proofs.ById.{ById}
+use Rattle.sql_tables.proofs.ByKey.{no_rows}
+use Rattle.sql_tables.proofs.Grown.{keyed_in_grown}
+use Rattle.sql_tables.specs.Maps.{Keyed}
+use Rattle.sql_tables.specs.Rows.{AreRowsById, AreRowsOf}
+use Rattle.sql_tables.specs.States.{Claim, StandsIn}
 use Rattle.vault_core.specs.Keys.{bytes_cmp, entry_cmp, record_cmp, right_cmp}
 use Rattle.vault_core.specs.Vault.{Vault}
+use Rattle.vault_schema.proofs.CardCodes.{cards_in_second}
+use Rattle.vault_schema.proofs.CountCodes.{counts_in_first}
+use Rattle.vault_schema.proofs.EntryCodes.{entries_in_second}
+use Rattle.vault_schema.proofs.MerchantCodes.{merchants_in_third}
 use Rattle.vault_schema.proofs.Placed.{by_id_in_grown}
-use Rattle.vault_schema.proofs.TablesBehind.{behind, behind_four, behind_from, behind_two, indexes_behind}
-use Rattle.vault_schema.proofs.TablesBehind.{indexes_behind_four, indexes_behind_from, indexes_behind_two}
-use Rattle.vault_schema.proofs.Version1.Codes as one
-use Rattle.vault_schema.proofs.Version2.Codes as two
-use Rattle.vault_schema.proofs.Version3 as three
-use Rattle.vault_schema.proofs.Version4 as four
+use Rattle.vault_schema.proofs.RecordCodes.{records_in_first}
+use Rattle.vault_schema.proofs.RightCodes.{rights_in_fourth}
+use Rattle.vault_schema.proofs.TablesBehind.{behind, behind_from, behind_two, indexes_behind}
+use Rattle.vault_schema.proofs.TablesBehind.{indexes_behind_from, indexes_behind_two}
+use Rattle.vault_schema.specs.Cards.{card_columns}
+use Rattle.vault_schema.specs.Counts.{count_row}
+use Rattle.vault_schema.specs.Entries.{entry_key, pointing_columns, pointing_row}
 use Rattle.vault_schema.specs.Holds.{AreIn, AreOurs, Holds, HoldsIn}
 use Rattle.vault_schema.specs.Layers.{is_from, rank}
 use Rattle.vault_schema.specs.Making.{empties}
+use Rattle.vault_schema.specs.Merchants.{merchant_key, lives_columns, merchant_row}
+use Rattle.vault_schema.specs.Merchants.{merchants as newest_merchants}
+use Rattle.vault_schema.specs.Records.{record_columns, record_row}
+use Rattle.vault_schema.specs.Rights.{right_key, ends_column, right_row}
 use Rattle.vault_schema.specs.Schema.{newest_schema}
 use Rattle.vault_schema.specs.Stands.{lookups_of, newest_claims}
-use Rattle.vault_schema.specs.Version1.Claims.{IsVersion}
-use Rattle.vault_schema.specs.Version1.Rows.{count_row, entry_key, merchant_key, number_column, numbered_key}
-use Rattle.vault_schema.specs.Version1.Rows.{record_columns, record_row, right_key}
-use Rattle.vault_schema.specs.Version2.Rows.{card_columns, pointing_columns, pointing_row}
-use Rattle.vault_schema.specs.Version2.Tables.{v2}
-use Rattle.vault_schema.specs.Version4.{ends_column}
-use Rattle.vault_schema.specs.Versions.{HasDefaults, Lookups, Tables, has_cards, lives_columns, merchant_row}
-use Rattle.vault_schema.specs.Versions.{natural_of, newest, newest_merchants, next_of, number_of, right_row}
+use Rattle.vault_schema.specs.Values.{number_column, numbered_key}
+use Rattle.vault_schema.specs.VersionRows.{IsVersion}
+use Rattle.vault_schema.specs.Versions.{HasDefaults, Lookups, Tables, has_cards, natural_of, newest, next_of}
 use Rattle.vault_schema.specs.Versions.{schema_of}
-use Rattle.vault_schema.specs.declared.version.TheConstants.{CREATE_LATER, PUT_VERSION}
 use Rattle.vault_schema.specs.declared.version.Version.{Version}
 use Rattle.vault_schema.specs.declared.version.Version.TheVariants.{One, Two, Three, Four}
 
@@ -66,28 +62,22 @@ indexes_behind_first = indexes_behind newest
 
 abbrev pub merchant_table : Keyed newest_schema bytes_cmp merchant_key lives_columns
 merchant_table =
-    keyed_in_grown three.merchant_table (behind_from newest Three) (indexes_behind_from newest Three) refl
+    keyed_in_grown merchants_in_third (behind_from newest Three) (indexes_behind_from newest Three) refl
 
 abbrev pub right_table : Keyed newest_schema right_cmp right_key ends_column
-right_table = keyed_in_grown four.right_table (behind_four newest) (indexes_behind_four newest) refl
+right_table = keyed_in_grown rights_in_fourth (behind_from newest Four) (indexes_behind_from newest Four) refl
 
 abbrev pub count_table : Keyed newest_schema record_cmp numbered_key number_column
-count_table = keyed_in_grown one.count_table behind_first indexes_behind_first refl
+count_table = keyed_in_grown counts_in_first behind_first indexes_behind_first refl
 
 abbrev pub record_table : Keyed newest_schema record_cmp numbered_key record_columns
-record_table = keyed_in_grown one.record_table behind_first indexes_behind_first refl
+record_table = keyed_in_grown records_in_first behind_first indexes_behind_first refl
 
 abbrev pub pointing_table : Keyed newest_schema entry_cmp entry_key pointing_columns
-pointing_table = keyed_in_grown two.pointing_table behind_second indexes_behind_second refl
+pointing_table = keyed_in_grown entries_in_second behind_second indexes_behind_second refl
 
 abbrev pub card_table : ById newest_schema card_columns
-card_table = by_id_in_grown two.card_table behind_second indexes_behind_second
-
-pub merchant_coding : Coding bytes_cmp merchant_row
-merchant_coding = three.merchant_coding
-
-pub right_coding : Coding right_cmp right_row
-right_coding = four.right_coding
+card_table = by_id_in_grown cards_in_second behind_second indexes_behind_second
 
 -- what is said of that of merchants
 pub merchants_held : (t : Tables) (db : Trees) → StandsIn newest_schema.tables (newest_claims t) db
@@ -95,42 +85,6 @@ pub merchants_held : (t : Tables) (db : Trees) → StandsIn newest_schema.tables
 merchants_held t db rows = rows.1.1.1.1.1.1.1.1.0
 
 -- ---- a vault that is made
-
--- schema 2 with so many of the tables that came since
-abbrev pub later_made : ℕ → Schema
-later_made n = grown v2 (take n behind_second) (take n indexes_behind_second)
-
--- a text makes one more of them
-pub record MakesLater (n : ℕ) (text : List ℕ) : Type 0 where
-  pub table : Table
-  pub makes : MakesTable (later_made n) text table
-  pub made : created (later_made n) table ≡ later_made (suc n)
-  pub more : suc (length (later_made n).tables) ≡ length (later_made (suc n)).tables
-
--- the texts that make them, in their order
-abbrev pub later_texts : List (List ℕ)
-later_texts = map (λ text. text.now) CREATE_LATER
-
-pub later_makes : (n : ℕ) (text : List ℕ) → n < length later_texts → text ≡ get_or later_texts n []
-    → MakesLater n text
-later_makes zero text inside is = subst (MakesLater 0) (sym is) (record {
-  table = _;
-  makes = three.texts.makes;
-  made = three.texts.made;
-  more = refl;
-})
-later_makes (suc zero) text inside is = subst (MakesLater 1) (sym is) (record {
-  table = _;
-  makes = four.texts.makes;
-  made = four.texts.made;
-  more = refl;
-})
-later_makes (suc (suc n)) text inside is = absurd (omega (arith, inside))
-
-pub put_version_is : IsWrite newest_schema PUT_VERSION.now
-    (insert 0 3 (lit (Int (pos 1)) ∷ lit Null ∷ lit (Int (number_of newest)) ∷ []))
-unfolding understood everything
-put_version_is = record { is = refl; plain = (refl, refl) }
 
 -- the version is said, and no other table has a row
 abbrev pub emptied_claims : List Claim

@@ -9,11 +9,11 @@ use Rattle.sqlite.specs.Table.{Table}
 use Rattle.sqlite_schema.specs.declared.schema.Column.{Column}
 use Rattle.sqlite_schema.specs.declared.schema.Index.{Index}
 use Rattle.sqlite_value.specs.Keys.{plain}
-use Rattle.sql_maps.proofs.ById.{ById}
-use Rattle.sql_maps.proofs.Grown.{still_here}
-use Rattle.sql_maps.proofs.Keys.{Keyed}
-use Rattle.sql_maps.specs.Codes.{Codes, fit, same_values}
-use Rattle.sql_maps.specs.Schema.{Descriptor, columns_to, grown, guards_of, table_of}
+use Rattle.sql_tables.proofs.ById.{ById}
+use Rattle.sql_tables.proofs.Grown.{still_here}
+use Rattle.sql_tables.specs.Codes.{Codes, fit, same_values}
+use Rattle.sql_tables.specs.Maps.{Keyed}
+use Rattle.sql_tables.specs.Schema.{Descriptor, columns_to, grown, guards_of, table_of}
 
 -- the table stands there, and no index but one guards its key
 abbrev pub placed : {K X : Type 0} {s : Schema} {cmp : K → K → Ordering} {key : K → Row} {value : X → Row}

@@ -2,20 +2,19 @@
 use Rattle.std.proofs.Common.{◌≡◌, true, false, List, [], ◌∷◌, refl, subst}
 use Rattle.sqlite.specs.Table.{Table}
 use Rattle.sqlite_schema.specs.declared.schema.Index.{Index}
-use Rattle.sql_maps.proofs.Keys.{IsGuarded}
-use Rattle.sql_maps.specs.Schema.{columns_to, grown, guards_of, is_plain, table_of}
-use Rattle.sql_maps.proofs.Grown.{guarded_in_grown}
+use Rattle.sql_tables.proofs.Grown.{guarded_in_grown}
+use Rattle.sql_tables.specs.Maps.{IsGuarded}
+use Rattle.sql_tables.specs.Schema.{columns_to, grown, guards_of, is_plain, table_of}
 use Rattle.vault_schema.proofs.Layers.{are_split, free_in, indexes_from, layers_after, no_indexes, no_tables}
 use Rattle.vault_schema.proofs.Layers.{plain_at, tables_from}
+use Rattle.vault_schema.specs.Cards.{cards}
+use Rattle.vault_schema.specs.Entries.{entries}
 use Rattle.vault_schema.specs.Layers.{indexes_at, is_from, tables_at}
-use Rattle.vault_schema.specs.Version1.Tables.{v1}
-use Rattle.vault_schema.specs.Version2.Tables.{cards, entries, v2}
-use Rattle.vault_schema.specs.Version3.{v3}
-use Rattle.vault_schema.specs.Version4.{v4}
+use Rattle.vault_schema.specs.Schemas.{v1, v2}
 use Rattle.vault_schema.specs.Versioned.{HasVersion}
 use Rattle.vault_schema.specs.Versions.{has_cards, layers, schema_of, second_layers, third_layers}
 use Rattle.vault_schema.specs.declared.version.Version.{Version}
-use Rattle.vault_schema.specs.declared.version.Version.TheVariants.{Two, Three, Four}
+use Rattle.vault_schema.specs.declared.version.Version.TheVariants.{Two}
 
 guard_of_cards : IsGuarded v2.indexes (table_of cards) (2 ∷ 3 ∷ [])
 guard_of_cards = record { index = _; only = refl; order = refl; columns = refl }
@@ -51,20 +50,6 @@ module _ (v : Version) where
   abbrev pub indexes_behind_two : List Index
   indexes_behind_two = indexes_at v third_layers
 
-  -- behind schema 3
-  abbrev pub behind_three : List Table
-  behind_three = behind_from Three
-
-  abbrev pub indexes_behind_three : List Index
-  indexes_behind_three = indexes_behind_from Three
-
-  -- behind schema 4
-  abbrev pub behind_four : List Table
-  behind_four = behind_from Four
-
-  abbrev pub indexes_behind_four : List Index
-  indexes_behind_four = indexes_behind_from Four
-
   pub schema_is : schema_of v ≡ grown v1 behind indexes_behind
   schema_is = refl
 
@@ -77,12 +62,6 @@ module _ (v : Version) where
 
   pub schema_second : has_cards v ≡ true → schema_of v ≡ grown v2 behind_two indexes_behind_two
   schema_second has = schema_from Two refl has
-
-  pub schema_third : is_from Three v ≡ true → schema_of v ≡ grown v3 behind_three indexes_behind_three
-  schema_third has = schema_from Three refl has
-
-  pub schema_fourth : is_from Four v ≡ true → schema_of v ≡ grown v4 behind_four indexes_behind_four
-  schema_fourth has = schema_from Four refl has
 
   -- the index of a merchant's numbers stays the only one that guards them
   pub cards_guarded : IsGuarded (grown v2 behind_two indexes_behind_two).indexes (table_of cards)

@@ -1,19 +1,19 @@
 -- What a value of a column tells, and back.
-use Rattle.std.proofs.Common.{◌≡◌, ◌==◌, ◌∙◌, ℕ, pos, [], true, ap, cond, sym, Option, Some, None}
-use Rattle.std.proofs.Common.{refl}
+use Rattle.std.proofs.Common.{◌≡◌, ◌==◌, ◌∙◌, ℕ, pos, [], true, ap, cond, sym, Option, Some, None, refl, ℤ}
 use Rattle.sqlite.specs.Kind.TheVariants.{Integer, Text as Words}
 use Rattle.sqlite.specs.Order.{column}
 use Rattle.sqlite.specs.declared.types.Value.{Value}
 use Rattle.sqlite.specs.declared.types.Value.TheVariants.{Int, Text}
-use Rattle.sql_maps.specs.Codes.{fits}
+use Rattle.sql_tables.specs.Codes.{fits}
+use Rattle.vault_pan.specs.Mask.{lead_digits}
+use Rattle.vault_pan.specs.declared.lead.Lead.{Lead}
+use Rattle.vault_pan.specs.declared.lead.Lead.TheVariants.{Six, Eight}
 use Rattle.vault_core.specs.Keys.{Bytes}
 use Rattle.vault_core.specs.Numbers.{use_number}
 use Rattle.vault_core.specs.declared.usage.Use.{Use}
 use Rattle.vault_core.specs.declared.usage.Use.TheVariants.{Single, Multi}
-use Rattle.vault_pan.specs.Mask.{lead_digits}
-use Rattle.vault_pan.specs.declared.lead.Lead.{Lead}
-use Rattle.vault_pan.specs.declared.lead.Lead.TheVariants.{Six, Eight}
-use Rattle.vault_schema.specs.Version1.Rows.{life_columns, number_or_null, text_or_null}
+use Rattle.vault_schema.specs.Entries.{life_columns}
+use Rattle.vault_schema.specs.Values.{number_or_null, text_or_null, id_or_null}
 
 -- ---- a number, and one that may be missing
 
@@ -88,3 +88,21 @@ lead_in v = cond (number_in v == 6) Six Eight
 pub lead_back : (lead : Lead) → lead_in (Int (pos (lead_digits lead))) ≡ lead
 lead_back Six = refl
 lead_back Eight = refl
+
+-- ---- an id, and one that may be missing
+
+abbrev maybe_id : Value → Option ℤ
+maybe_id (Int id) = Some id
+maybe_id _ = None
+
+id_back : (o : Option ℤ) → maybe_id (id_or_null o) ≡ o
+id_back None = refl
+id_back (Some id) = refl
+
+-- two that show the same are the same
+pub id_same : (a b : Option ℤ) → id_or_null a ≡ id_or_null b → a ≡ b
+id_same a b e = sym (id_back a) ∙ ap maybe_id e ∙ id_back b
+
+pub id_fits : (o : Option ℤ) → fits Integer (id_or_null o) ≡ true
+id_fits None = refl
+id_fits (Some id) = refl

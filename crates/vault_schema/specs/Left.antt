@@ -3,9 +3,9 @@ use Rattle.std.proofs.Common.{◌≡◌, inl, subst, sym, ap, ◌∙◌}
 use Rattle.sqlite.specs.Effect.{Database}
 use Rattle.sqlite.specs.State.{State}
 use Rattle.sqlite.specs.Tree.{Trees}
-use Rattle.vault_core.specs.Vault.{Vault}
 use Rattle.sqlite_catalog.specs.Listing.{IsSound}
-use Rattle.sql_maps.specs.States.{LeavesNoMore}
+use Rattle.sql_tables.specs.States.{LeavesNoMore}
+use Rattle.vault_core.specs.Vault.{Vault}
 use Rattle.vault_schema.specs.Holds.{AreOurs, Holds, LeavesEither}
 use Rattle.vault_schema.specs.Schema.{newest_schema}
 use Rattle.vault_schema.specs.Stands.{Stands}

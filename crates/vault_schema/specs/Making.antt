@@ -3,8 +3,8 @@ use Rattle.std.specs.Prelude.{◌≡◌, ◌++◌, ℕ, zero, suc, List, [], ◌
 use Rattle.sqlite.specs.Effect.{Database}
 use Rattle.sqlite.specs.Schema.{Schema}
 use Rattle.sqlite.specs.State.{State}
-use Rattle.sql_maps.specs.Schema.{no_schema}
-use Rattle.sql_maps.specs.States.{Claim, IsEmpty, Within}
+use Rattle.sql_tables.specs.Schema.{no_schema}
+use Rattle.sql_tables.specs.States.{Claim, IsEmpty, Within}
 
 -- an open database outside a transaction, all of which is committed
 pub record IsReady (s : State) : Type 0 where

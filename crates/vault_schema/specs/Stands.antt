@@ -1,12 +1,12 @@
 -- The rows that stand for a vault.
-use Rattle.std.specs.Prelude.{ℕ, ◌==◌, List, Option, Some, None, option_map, if◌then◌else◌}
-use Rattle.std.specs.Option.{option_map_or}
 use Rattle.std.specs.FinMap as map
+use Rattle.std.specs.Option.{option_map_or}
+use Rattle.std.specs.Prelude.{ℕ, ◌==◌, List, Option, Some, None, option_map, if◌then◌else◌}
 use Rattle.sqlite.specs.Tree.{Trees}
+use Rattle.sql_tables.specs.States.{Claim}
 use Rattle.vault_core.specs.Keys.{Bytes}
 use Rattle.vault_core.specs.Lives.{lives_in}
 use Rattle.vault_core.specs.Vault.{Vault, Merchant, merchant_at, made_count}
-use Rattle.sql_maps.specs.States.{Claim}
 use Rattle.vault_schema.specs.Versions.{Lookups, StandJoined, Tables, claims_of}
 pub use Rattle.vault_schema.specs.Versions.{newest}
 

@@ -3,8 +3,8 @@ use Rattle.std.specs.Prelude.{◌≡◌, List, [], ◌∷◌, drop}
 use Rattle.sqlite.specs.Schema.{Schema}
 use Rattle.sqlite.specs.Table.{Table}
 use Rattle.sqlite_schema.specs.declared.schema.Index.{Index}
-use Rattle.sql_maps.specs.Schema.{table_of}
-use Rattle.vault_schema.specs.Version1.Tables.{vault}
+use Rattle.sql_tables.specs.Schema.{table_of}
+use Rattle.vault_schema.specs.VersionRows.{vault}
 
 -- the table of the version, with others behind it and any indexes
 abbrev pub versioned : List Table → List Index → Schema

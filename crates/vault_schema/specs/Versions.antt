@@ -1,35 +1,37 @@
 -- What the rows of each version stand for, by one form: that of the newest one. A version that can't hold
 -- something stands only where that has its default.
-use Rattle.std.specs.Prelude.{◌≡◌, ℕ, suc, ℤ, pos, Bool, List, [], ◌∷◌, false, Option, Some, None}
-use Rattle.std.specs.Prelude.{option_map, IsTrue}
+use Rattle.std.specs.Prelude.{◌≡◌, ℕ, suc, ℤ, pos, Bool, List, [], ◌∷◌, false, Option, Some, None, option_map}
+use Rattle.std.specs.Prelude.{IsTrue}
 use Rattle.sqlite.specs.Effect.{Database, IsDatabase}
-use Rattle.sqlite.specs.Order.{Row}
 use Rattle.sqlite.specs.Schema.{Schema}
 use Rattle.sqlite.specs.State.{State}
 use Rattle.sqlite.specs.Tree.{Trees}
 use Rattle.sqlite_catalog.specs.Listing.{IsSound}
-use Rattle.sql_maps.specs.Rows.{AreRowsById, AreRowsOf}
-use Rattle.sql_maps.specs.Schema.{Descriptor, table_of}
-use Rattle.sql_maps.specs.States.{Claim, IsFree, StandsIn}
-use Rattle.vault_core.specs.Keys.{Bytes}
+use Rattle.sql_tables.specs.Rows.{AreRowsById, AreRowsOf}
+use Rattle.sql_tables.specs.Schema.{table_of}
+use Rattle.sql_tables.specs.States.{Claim, IsFree, StandsIn}
 use Rattle.vault_pan.specs.declared.lead.Lead.TheVariants.{Six}
+use Rattle.vault_core.specs.Keys.{Bytes}
 use Rattle.vault_core.specs.declared.right.Right.{Right}
 use Rattle.vault_core.specs.declared.row.Entry.{Entry}
 use Rattle.vault_core.specs.declared.row.GrantRow.{GrantRow}
-use Rattle.vault_core.specs.declared.row.Record.{Record}
-use Rattle.vault_schema.specs.Layers.{Either, Layer, claims_at, claims_if, is_from, rank, schema_at}
-use Rattle.vault_schema.specs.Version1.Claims.{IsVersion}
-use Rattle.vault_schema.specs.Version1.Rows.{count_row, entry_row, record_row}
-use Rattle.vault_schema.specs.Version1.Rows as one
-use Rattle.vault_schema.specs.Version1.Tables as tables1
-use Rattle.vault_schema.specs.Version2.Joined.{AreJoined, nothing_owed}
-use Rattle.vault_schema.specs.Version2.Rows.{card_columns, pointing_row}
-use Rattle.vault_schema.specs.Version2.Tables as tables2
-use Rattle.vault_schema.specs.Version3 as three
-use Rattle.vault_schema.specs.Version4 as four
-use Rattle.vault_schema.specs.declared.v2.Card.{Card}
-use Rattle.vault_schema.specs.declared.v2.Pointing.{Pointing}
 use Rattle.vault_core.specs.declared.row.Lives.{Lives}
+use Rattle.vault_core.specs.declared.row.Record.{Record}
+use Rattle.vault_schema.specs.Cards.{card_columns, card_indexes, cards as cards_table}
+use Rattle.vault_schema.specs.Counts.{count_row, count_indexes, counts as counts_table}
+use Rattle.vault_schema.specs.Entries.{entry_row, old_entries, old_entry_indexes, pointing_row}
+use Rattle.vault_schema.specs.Entries.{entries as entries_table, entry_indexes}
+use Rattle.vault_schema.specs.Joined.{AreJoined, nothing_owed}
+use Rattle.vault_schema.specs.Layers.{Either, Layer, claims_at, claims_if, is_from, rank, schema_at}
+use Rattle.vault_schema.specs.Merchants.{old_merchant_row, old_merchant_indexes, old_merchants, merchant_row}
+use Rattle.vault_schema.specs.Merchants.{merchants as merchants_table, older_lives}
+use Rattle.vault_schema.specs.Records.{record_row, record_indexes, records as records_table}
+use Rattle.vault_schema.specs.Rights.{old_right_row, old_right_indexes, old_rights, older_right, right_row}
+use Rattle.vault_schema.specs.Rights.{rights as rights_table}
+use Rattle.vault_schema.specs.Schemas.{indexes3, indexes4}
+use Rattle.vault_schema.specs.VersionRows.{IsVersion, vault as vault_table}
+use Rattle.vault_schema.specs.declared.rows.Card.{Card}
+use Rattle.vault_schema.specs.declared.rows.Pointing.{Pointing}
 use Rattle.vault_schema.specs.declared.version.Version.{Version}
 use Rattle.vault_schema.specs.declared.version.Version.TheVariants.{One, Two, Three, Four}
 
@@ -50,20 +52,6 @@ next_of Four = Four
 -- the newest version
 abbrev pub newest : Version
 newest = Four
-
--- ---- how the newest table has a merchant, and how the newest one has a right
-
-abbrev pub newest_merchants : Descriptor
-newest_merchants = three.merchants
-
-abbrev pub lives_columns : Lives → Row
-lives_columns = three.lives_columns
-
-abbrev pub merchant_row : Bytes → Lives → Row
-merchant_row = three.merchant_row
-
-abbrev pub right_row : Bytes × (Bytes × Right) → GrantRow → Row
-right_row = four.right_row
 
 -- ---- what is looked up, and what tables have of it
 
@@ -96,10 +84,10 @@ tables_of h cards pointing = record {
 
 -- merchants and rights as the older tables have them, and as the newer ones
 abbrev pub OldMerchants : (Bytes → Option Lives) → Claim
-OldMerchants held rows = AreRowsOf one.merchant_row rows (λ m. option_map three.older (held m))
+OldMerchants held rows = AreRowsOf old_merchant_row rows (λ m. option_map older_lives (held m))
 
 abbrev pub OldRights : (Bytes × (Bytes × Right) → Option GrantRow) → Claim
-OldRights held rows = AreRowsOf one.right_row rows (λ key. option_map four.older (held key))
+OldRights held rows = AreRowsOf old_right_row rows (λ key. option_map older_right (held key))
 
 abbrev pub Merchants : (Bytes → Option Lives) → Claim
 Merchants held rows = AreRowsOf merchant_row rows held
@@ -118,8 +106,8 @@ abbrev pub fourth_layers : List (Layer Contents)
 fourth_layers = record {
   since = Four;
   till = None;
-  table = table_of four.rights;
-  indexes = four.indexes4;
+  table = table_of rights_table;
+  indexes = indexes4;
   claim = λ v held. Rights held.1.rights;
 } ∷ []
 
@@ -128,8 +116,8 @@ abbrev pub third_layers : List (Layer Contents)
 third_layers = record {
   since = Three;
   till = None;
-  table = table_of three.merchants;
-  indexes = three.indexes3;
+  table = table_of merchants_table;
+  indexes = indexes3;
   claim = λ v held. Merchants held.1.merchants;
 } ∷ fourth_layers
 
@@ -139,15 +127,15 @@ second_layers =
     record {
       since = Two;
       till = None;
-      table = table_of tables2.cards;
-      indexes = tables2.card_indexes;
+      table = table_of cards_table;
+      indexes = card_indexes;
       claim = λ v held rows. AreRowsById card_columns rows held.1.cards;
     }
     ∷ record {
       since = Two;
       till = None;
-      table = table_of tables2.entries;
-      indexes = tables2.entry_indexes;
+      table = table_of entries_table;
+      indexes = entry_indexes;
       claim = λ v held rows. AreRowsOf pointing_row rows held.1.pointing;
     }
     ∷ third_layers
@@ -158,43 +146,43 @@ layers =
     record {
       since = One;
       till = None;
-      table = table_of tables1.vault;
+      table = table_of vault_table;
       indexes = [];
       claim = λ v held. IsVersion (natural_of v);
     }
     ∷ record {
       since = One;
       till = Some Three;
-      table = table_of tables1.merchants;
-      indexes = tables1.merchant_indexes;
+      table = table_of old_merchants;
+      indexes = old_merchant_indexes;
       claim = λ v held. OldMerchants held.1.merchants;
     }
     ∷ record {
       since = One;
       till = None;
-      table = table_of tables1.counts;
-      indexes = tables1.count_indexes;
+      table = table_of counts_table;
+      indexes = count_indexes;
       claim = λ v held rows. AreRowsOf count_row rows held.1.counts;
     }
     ∷ record {
       since = One;
       till = Some Two;
-      table = table_of tables1.entries;
-      indexes = tables1.entry_indexes;
+      table = table_of old_entries;
+      indexes = old_entry_indexes;
       claim = λ v held rows. AreRowsOf entry_row rows held.0;
     }
     ∷ record {
       since = One;
       till = None;
-      table = table_of tables1.records;
-      indexes = tables1.record_indexes;
+      table = table_of records_table;
+      indexes = record_indexes;
       claim = λ v held rows. AreRowsOf record_row rows held.1.records;
     }
     ∷ record {
       since = One;
       till = Some Four;
-      table = table_of tables1.rights;
-      indexes = tables1.right_indexes;
+      table = table_of old_rights;
+      indexes = old_right_indexes;
       claim = λ v held. OldRights held.1.rights;
     }
     ∷ second_layers

@@ -1,8 +1,5 @@
-//! The schemas of a vault's database, one module a version.
+//! The versions of a vault's schema, and what their rows stand for.
 #![tactic(auto)]
 
-pub mod v1;
-pub mod v2;
-pub mod v3;
-pub mod v4;
+pub mod rows;
 pub mod version;

@@ -6,9 +6,9 @@ use Rattle.std.proofs.lemmas.Bool.Decides.{nat_tests}
 use Rattle.std.specs.Prelude.{option_map}
 use Rattle.std.specs.Ordering.{eq_by_cmp}
 use Rattle.sqlite.specs.State.{State}
-use Rattle.sql_maps.proofs.Calls.{on_ok}
-use Rattle.sql_maps.specs.Rows.{put}
-use Rattle.vault_cards.specs.Calls.{IsWithin, Makes}
+use Rattle.sql_tables.proofs.Calls.{on_ok}
+use Rattle.sql_tables.specs.Rows.{put}
+use Rattle.vault_tables.specs.Calls.{IsWithin, Makes}
 use Rattle.vault_core.proofs.Maps.{bytes_exact, tied}
 use Rattle.vault_core.specs.Keys.{Bytes, bytes_cmp}
 use Rattle.vault_core.specs.Lives.{lives_in, row_lives}
@@ -18,8 +18,8 @@ use Rattle.vault_core.specs.Window.{row_of, row_at}
 use Rattle.vault_core.specs.declared.changes.Count.TheVariants.{Made}
 use Rattle.vault_core.specs.declared.row.Lives.{Lives}
 use Rattle.vault_core.specs.declared.row.MerchantRow.{MerchantRow}
-use Rattle.vault_rows.specs.Written.{IsTotal}
-use Rattle.vault_rows.specs.declared.merchants.KnownCount.{KnownCount}
+use Rattle.vault_tables.specs.Raising.{IsTotal}
+use Rattle.vault_tables.specs.declared.counts.KnownCount.{KnownCount}
 use Rattle.vault_schema.specs.Stands.{lookups_of, newest, unless_zero}
 use Rattle.vault_schema.specs.Versions.{Lookups}
 use Rattle.vault_schema.specs.declared.version.Version.{Version}

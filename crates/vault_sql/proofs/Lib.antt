@@ -1,6 +1,12 @@
+pub mod Calls
+pub mod Current
+pub mod Dead
 pub mod Gathered
+pub mod JoinedEntries
 pub mod KnownWrites
+pub mod Listed
 pub mod ListedShown
+pub mod Lookups
 pub mod Places
 pub mod Remembering
 pub mod RowsAfter

@@ -10,10 +10,11 @@ use Rattle.vault_core.specs.Keys.{Bytes, bytes_cmp, right_cmp}
 use Rattle.vault_core.specs.Vault.{Merchant, Vault, merchant_at}
 use Rattle.vault_core.specs.declared.right.Right.{Right}
 use Rattle.vault_core.specs.declared.row.GrantRow.{GrantRow}
-use Rattle.vault_rows.specs.Listed.{ShowsAll, ShowsRight}
-use Rattle.vault_schema.proofs.Newest.{right_coding}
+use Rattle.vault_sql.specs.Listed.{ShowsAll, ShowsRight}
+use Rattle.vault_schema.proofs.RightCodes.{right_coding}
 use Rattle.vault_core.specs.Lives.{lives_in}
-use Rattle.vault_schema.specs.Versions.{merchant_row, right_row}
+use Rattle.vault_schema.specs.Merchants.{merchant_row}
+use Rattle.vault_schema.specs.Rights.{right_row}
 use Rattle.vault_core.specs.declared.row.Lives.{Lives}
 use Rattle.vault_sql.specs.Gathered.{Gathers, ShowsName}
 use Rattle.vault_sql.proofs.Gathered.{gathered-is}

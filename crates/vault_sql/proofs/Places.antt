@@ -5,7 +5,7 @@ use Rattle.std.specs.FinMap as map
 use Rattle.std.specs.Ordering.{eq_by_cmp}
 use Rattle.sqlite.specs.State.{State, HasCleanDisk}
 use Rattle.sqlite.specs.Tree.{Trees}
-use Rattle.sql_maps.specs.States.{Reads}
+use Rattle.sql_tables.specs.States.{Reads}
 use Rattle.vault_core.proofs.Maps.{entry_total}
 use Rattle.vault_core.specs.Changes.{with_entry}
 use Rattle.vault_core.specs.Dead.{dead_tokens, is_dead}
@@ -17,9 +17,9 @@ use Rattle.vault_core.specs.declared.row.Entry.{Entry}
 use Rattle.vault_core.specs.Changes.{plus}
 use Rattle.vault_schema.specs.Holds.{Holds, LeavesEither}
 use Rattle.vault_schema.specs.Schema.{newest_schema}
-use Rattle.vault_rows.proofs.Calls as calls
-use Rattle.vault_rows.proofs.Dead.{first_dead}
-use Rattle.vault_rows.specs.DeadBefore.{HasNoDeadBefore}
+use Rattle.vault_sql.proofs.Calls as calls
+use Rattle.vault_sql.proofs.Dead.{first_dead}
+use Rattle.vault_sql.specs.DeadBefore.{HasNoDeadBefore}
 use Rattle.vault_sql.specs.Places.{HasNoNumber, IsPast, first_place}
 use Rattle.vault_sql.specs.declared.place.Place.{Place}
 

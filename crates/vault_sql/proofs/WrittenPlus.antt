@@ -23,11 +23,11 @@ use Rattle.vault_core.specs.declared.row.Record.{Record}
 use Rattle.vault_store.proofs.MadeLemmas.{one_at, made-plus}
 use Rattle.vault_core.specs.Lives.{lives_in}
 use Rattle.vault_schema.specs.Stands.{count_at, unless_zero, lookups_of}
-use Rattle.sql_maps.specs.Rows.{put}
+use Rattle.sql_tables.specs.Rows.{put}
 use Rattle.vault_core.specs.Numbers.{count_number}
-use Rattle.vault_rows.specs.Written.{put_lives, raise, put_entry, put_record, put_right, written}
-use Rattle.vault_rows.specs.Written.{HasRoom}
-use Rattle.sql_maps.proofs.KeyTests.{equal_is, then_eq}
+use Rattle.vault_sql.specs.Written.{put_lives, raise, put_entry, put_record, put_right, written}
+use Rattle.vault_sql.specs.Written.{HasRoom}
+use Rattle.sql_tables.proofs.KeyTests.{equal_is, then_eq}
 
 -- ---- merchants and their counts
 

@@ -4,8 +4,8 @@ use Rattle.vault_core.specs.Keys.{Bytes}
 use Rattle.vault_core.specs.Numbers.{count_number}
 use Rattle.vault_core.specs.declared.changes.Count.TheVariants.{Made}
 use Rattle.vault_core.specs.declared.row.Lives.{Lives}
-use Rattle.vault_rows.specs.Written.{IsTotal}
-use Rattle.vault_rows.specs.declared.merchants.KnownCount.{KnownCount}
+use Rattle.vault_tables.specs.Raising.{IsTotal}
+use Rattle.vault_tables.specs.declared.counts.KnownCount.{KnownCount}
 use Rattle.vault_schema.specs.Versions.{Lookups}
 use Rattle.vault_sql.specs.KnownLives.{AreBefore}
 use Rattle.vault_sql.specs.declared.remembered.Known.{Known}

@@ -1,7 +1,13 @@
+pub mod Calls
+pub mod Cards
+pub mod Counts
+pub mod DeadBefore
 pub mod Gathered
 pub mod Held
 pub mod KnownCounts
 pub mod KnownLives
+pub mod Listed
 pub mod Places
 pub mod Remembered
 pub mod Storable
+pub mod Written

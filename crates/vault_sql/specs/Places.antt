@@ -3,7 +3,7 @@ use Rattle.std.specs.Prelude.{◌≡◌, ℕ, List, [], ◌∷◌, Option, Some,
 use Rattle.vault_core.specs.Keys.{Bytes}
 use Rattle.vault_core.specs.Vault.{Vault}
 use Rattle.vault_core.specs.declared.row.Entry.{Entry}
-use Rattle.vault_rows.specs.DeadBefore.{HasNoDeadBefore}
+use Rattle.vault_sql.specs.DeadBefore.{HasNoDeadBefore}
 use Rattle.vault_sql.specs.declared.place.Place.{Place}
 
 -- no token of the place's merchant that comes before its token is dead at its moment

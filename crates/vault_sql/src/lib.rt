@@ -1,9 +1,11 @@
 //! The tables of a vault in SQLite: opened, read, and changed in one transaction for each command.
 #![tactic(auto)]
 
+mod entries;
+mod merchants;
 mod names;
-pub mod open;
 pub mod place;
+mod records;
 pub mod remembered;
 mod rights;
 pub mod tables;

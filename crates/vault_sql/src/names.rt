@@ -2,9 +2,9 @@
 ghost use Rattle.std.specs.Prelude.{◌≡◌, IfOk, option_map};
 ghost use Rattle.vault_core.specs.Keys.{bytes_cmp};
 ghost use Rattle.vault_core.specs.Vault.{Vault, merchant_at};
-ghost use Rattle.vault_rows.specs.Listed.{ShowsAll};
+ghost use Rattle.vault_sql.specs.Listed.{ShowsAll};
 ghost use Rattle.vault_core.specs.Lives.{lives_in};
-ghost use Rattle.vault_schema.specs.Versions.{merchant_row};
+ghost use Rattle.vault_schema.specs.Merchants.{merchant_row};
 ghost use Rattle.vault_sql.specs.Gathered.{Gathers, ShowsName};
 ghost use Rattle.vault_store.specs.Listed.{merchant_names};
 
@@ -12,9 +12,9 @@ use sqlite::Row;
 use std::alloc::Global;
 use std::collections::BTreeMap;
 use vault_core::name::MerchantId;
-use vault_rows::columns::merchant_in;
 use vault_store::names::names_of;
 use vault_store::tables::TablesFault;
+use vault_tables::columns::merchant_in;
 
 /// The names that rows show, in an ordered map.
 fn gathered_names(alloc: Global, rows: &[Row]) -> Result<BTreeMap<MerchantId, ()>, TablesFault>

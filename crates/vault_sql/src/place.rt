@@ -3,7 +3,7 @@ ghost use Rattle.std.specs.Prelude.{◌≡◌, ◌↔◌, IsTrue, Some};
 ghost use Rattle.vault_core.specs.Changes.{plus};
 ghost use Rattle.vault_core.specs.Keys.{Bytes};
 ghost use Rattle.vault_core.specs.Vault.{Vault};
-ghost use Rattle.vault_rows.specs.DeadBefore.{HasNoDeadBefore};
+ghost use Rattle.vault_sql.specs.DeadBefore.{HasNoDeadBefore};
 ghost use Rattle.vault_sql.specs.Places.{HasNoNumber, IsPast, first_place};
 
 use vault_core::changes::Changes;

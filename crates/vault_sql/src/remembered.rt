@@ -13,7 +13,7 @@ use vault_core::changes::{Changes, Count};
 use vault_core::name::{Caller, MerchantId};
 use vault_core::right::Right;
 use vault_core::row::{GrantRow, Lives, MerchantRow};
-use vault_rows::merchants::KnownCount;
+use vault_tables::counts::KnownCount;
 
 /// How many merchants are remembered at most.
 pub const MERCHANTS: usize = 8;

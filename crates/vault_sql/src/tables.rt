@@ -1,10 +1,13 @@
 //! Tables in a database.
 ghost use Rattle.std.specs.Prelude.{◌≡◌, true, false, Err};
 
+use crate::entries::{current, entry};
+use crate::merchants::{all_merchants, how_many, merchant_and_rowid};
 use crate::names::names_in;
 use crate::place::{Place, place_after, place_of};
+use crate::records::recorded;
 use crate::remembered::Remembered;
-use crate::rights::rights_of;
+use crate::rights::{all_rights, right, rights_of};
 use crate::tokens::{dead_from, tokens_of};
 use crate::transaction::{are_storable, write};
 use sqlite::{Alter, Connection};
@@ -17,10 +20,6 @@ use vault_core::right::Right;
 use vault_core::row::{Entry, GrantRow, MerchantRow, Record};
 use vault_pan::pan::Pan;
 use vault_pan::token::Token;
-use vault_rows::entries::{current, entry};
-use vault_rows::merchants::{all_merchants, how_many, merchant_and_rowid};
-use vault_rows::records::recorded;
-use vault_rows::rights::{all_rights, right};
 use vault_store::tables::{RightRow, Tables, TablesFault};
 
 /// Tables in a database, which fail from the first call on that the database refused. They remember where

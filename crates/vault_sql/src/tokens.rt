@@ -2,25 +2,25 @@
 ghost use Rattle.std.specs.Prelude.{◌≡◌, IfOk, map, min, take};
 ghost use Rattle.sqlite.specs.Order.{column};
 ghost use Rattle.sqlite.specs.declared.types.Value.TheVariants.{Text};
-ghost use Rattle.sql_maps.specs.Transactions.{Between};
+ghost use Rattle.sql_tables.specs.Transactions.{Between};
 ghost use Rattle.vault_core.specs.Dead.{dead_tokens};
 ghost use Rattle.vault_core.specs.Window.{moment_at};
 ghost use Rattle.vault_core.specs.declared.limit.TheConstants.{MOST_TOKENS};
-ghost use Rattle.vault_rows.specs.Calls.{Tells};
-ghost use Rattle.vault_rows.specs.Shown.{text_column};
+ghost use Rattle.vault_sql.specs.Calls.{Tells};
+ghost use Rattle.vault_tables.specs.Shown.{text_column};
 ghost use Rattle.vault_sql.specs.Places.{IsPast};
 
+use crate::entries::dead;
+use crate::merchants::moment;
 use crate::place::{Place, start_of};
-use sql_stored::fault::StoreFault;
+use sql_tables::fault::StoreFault;
 use sqlite::{Alter, Connection, Row};
 use std::alloc::{AllocError, Global};
 use vault_core::moment::Moment;
 use vault_core::name::MerchantId;
 use vault_pan::token::Token;
-use vault_rows::columns::token_in;
-use vault_rows::entries::dead;
-use vault_rows::merchants::moment;
 use vault_store::tables::TablesFault;
+use vault_tables::columns::token_in;
 
 /// The later one of a merchant's moment and `now`, and the rows of the first `limit` of its tokens that are
 /// dead then, in order. They are no more than a merchant can have.

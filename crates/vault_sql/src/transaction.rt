@@ -6,10 +6,10 @@ ghost use Rattle.vault_core.specs.Keys.{bytes_cmp, right_cmp};
 ghost use Rattle.vault_core.specs.Sound.{Sound};
 ghost use Rattle.vault_core.specs.Vault.{Vault};
 ghost use Rattle.sqlite.specs.State.{HasCleanDisk};
-ghost use Rattle.sql_maps.specs.Rows.{put};
-ghost use Rattle.sql_maps.specs.Transactions.{Inside, KeepsDoubts};
+ghost use Rattle.sql_tables.specs.Rows.{put};
+ghost use Rattle.sql_tables.specs.Transactions.{Inside, KeepsDoubts};
 ghost use Rattle.vault_schema.specs.Versions.{newest};
-ghost use Rattle.vault_cards.specs.Calls.{Makes};
+ghost use Rattle.vault_tables.specs.Calls.{Makes};
 ghost use Rattle.vault_schema.specs.Holds.{Holds, LeavesEither};
 ghost use Rattle.vault_schema.specs.Stands.{lookups_of};
 ghost use Rattle.vault_sql.specs.KnownCounts.{IsBefore, IsMade, IsMadeBefore};
@@ -17,24 +17,25 @@ ghost use Rattle.vault_sql.specs.KnownLives.{AreBefore, AreThere};
 ghost use Rattle.vault_sql.specs.Storable.{AreStorable, IsStorableEntry, IsStorableLives};
 ghost use Rattle.vault_core.specs.declared.changes.Count.TheVariants.{Made};
 ghost use Rattle.vault_core.specs.Numbers.{count_number};
-ghost use Rattle.vault_rows.specs.Written.{HasRoom, HasRoomAt, put_entry as put_entry_lem, raise_at};
-ghost use Rattle.vault_rows.specs.Written.{put_lives, put_record as put_record_lem, put_right};
-ghost use Rattle.vault_rows.specs.Written.{raise as raise_lem};
+ghost use Rattle.vault_sql.specs.Written.{HasRoom, put_entry as put_entry_lem, put_lives};
+ghost use Rattle.vault_sql.specs.Written.{put_record as put_record_lem, put_right, raise as raise_lem};
+ghost use Rattle.vault_tables.specs.Raising.{HasRoomAt, raise_at};
 
 use crate::remembered::Known;
-use sql_stored::fault::StoreFault;
+use sql_tables::fault::StoreFault;
 use sqlite::{Alter, Connection, Error, Transaction};
-use vault_cards::pointing::{add_entry, put_entry};
 use vault_core::changes::{Changes, Count};
 use vault_core::name::{Caller, MerchantId};
 use vault_core::request::RequestNo;
 use vault_core::right::Right;
 use vault_core::row::{Entry, GrantRow, Lives, Record};
 use vault_pan::token::Token;
-use vault_rows::merchants::{KnownCount, put_merchant, raise, raise_known, set_lives};
-use vault_rows::records::add_record;
-use vault_rows::rights::{give, take};
 use vault_tables::columns::{GREATEST, caller_text, merchant_text};
+use vault_tables::counts::{KnownCount, raise, raise_known};
+use vault_tables::entries::{add_entry, put_entry};
+use vault_tables::merchants::{self, set_lives};
+use vault_tables::records::add_record;
+use vault_tables::rights::{give, take};
 
 /// Whether columns hold the numbers of a merchant's lives.
 fn are_storable_lives(lives: &Option<(MerchantId, Lives)>) -> bool
@@ -79,7 +80,7 @@ fn set_merchant<S: Alter>(
 {
     match known {
         Some(was) if *was == *x => Ok(()),
-        Some(_) => Ok(put_merchant(tx, merchant_text(m), x)?),
+        Some(_) => Ok(merchants::put(tx, merchant_text(m), x)?),
         None => set_lives(tx, merchant_text(m), x),
     }
 }

@@ -10,16 +10,16 @@ use Rattle.sqlite.specs.State.{ExecutesInside, HasCleanDisk, State}
 use Rattle.sqlite.specs.Term.{col, op2}
 use Rattle.sqlite.specs.Tree.{Trees, has_rowid, without_rowid}
 use Rattle.sqlite.specs.declared.types.Value.TheVariants.{Null, Int}
-use Rattle.sql_maps.specs.Rows.{AreRowsById}
-use Rattle.sql_maps.specs.States.{Claim, IsEmpty, StandsIn, Steps, Within, at_place}
-use Rattle.sql_maps.proofs.ByKey.{no_rows}
-use Rattle.sql_maps.proofs.KeyTests.{int_eq}
-use Rattle.sql_maps.proofs.Moves.{change_one, empty_in}
-use Rattle.sql_maps.proofs.Plain.{claimed}
-use Rattle.sql_maps.proofs.Statements.{Ran, retold, written}
-use Rattle.sql_maps.proofs.Steps.{delete_wrote}
-use Rattle.sql_maps.specs.Schema.{table_of}
-use Rattle.sql_maps.specs.Texts.{IsWrite, delete}
+use Rattle.sql_tables.specs.Rows.{AreRowsById}
+use Rattle.sql_tables.specs.States.{Claim, IsEmpty, StandsIn, Steps, Within, at_place}
+use Rattle.sql_tables.proofs.ByKey.{no_rows}
+use Rattle.sql_tables.proofs.KeyTests.{int_eq}
+use Rattle.sql_tables.proofs.Moves.{change_one, empty_in}
+use Rattle.sql_tables.proofs.Plain.{claimed}
+use Rattle.sql_tables.proofs.Statements.{Ran, retold, written}
+use Rattle.sql_tables.proofs.Steps.{delete_wrote}
+use Rattle.sql_tables.specs.Schema.{table_of}
+use Rattle.sql_tables.specs.Texts.{IsWrite, delete}
 use Rattle.sqlite_rules.proofs.ListLemmas.{has_filtered}
 use Rattle.sqlite_rules.specs.Calls.{ids_of}
 use Rattle.sqlite_rules.specs.Lists.{Has}
@@ -28,25 +28,29 @@ use Rattle.sqlite_sql.specs.declared.ops.CompareOp.TheVariants.{Le}
 use Rattle.sqlite_tied.specs.Compute.{everything}
 use Rattle.vault_core.specs.Keys.{Bytes}
 use Rattle.vault_core.specs.declared.row.Entry.{Entry}
-use Rattle.vault_schema.specs.Version1.Tables as one
-use Rattle.vault_schema.specs.Version1.Tables.{v1}
-use Rattle.vault_schema.specs.Version2.Joined.{AreJoined, nothing_owed}
-use Rattle.vault_schema.specs.Version2.Rows.{card_columns, pointing_row}
-use Rattle.vault_schema.specs.Version2.Tables.{v2}
+use Rattle.vault_schema.specs.Entries.{old_entries}
+use Rattle.vault_schema.specs.VersionRows.{vault}
+use Rattle.vault_schema.specs.Schemas.{v1}
+use Rattle.vault_schema.specs.Joined.{AreJoined, nothing_owed}
+use Rattle.vault_schema.specs.Cards.{card_columns}
+use Rattle.vault_schema.specs.Entries.{pointing_row}
+use Rattle.vault_schema.specs.Schemas.{v2}
 use Rattle.vault_schema.specs.Versions.{Lookups, WithinOf, claims_of, first_claims, tables_of}
-use Rattle.vault_schema.specs.declared.v2.Card.{Card}
-use Rattle.vault_schema.specs.declared.v2.Pointing.{Pointing}
-use Rattle.vault_schema.specs.declared.v2.TheConstants.{CREATE_CARDS, CREATE_ENTRIES, CREATE_ENTRIES_CARD}
-use Rattle.vault_schema.specs.declared.v2.TheConstants.{EMPTY_ENTRIES, SET_VERSION}
+use Rattle.vault_schema.specs.declared.rows.Card.{Card}
+use Rattle.vault_schema.specs.declared.rows.Pointing.{Pointing}
+use Rattle.vault_tables.specs.declared.cards.TheConstants.{CREATE_CARDS}
+use Rattle.vault_tables.specs.declared.entries.TheConstants.{CREATE_ENTRIES, CREATE_ENTRIES_CARD}
+use Rattle.vault_tables.specs.declared.entries.old.TheConstants.{EMPTY_OLD_ENTRIES}
+use Rattle.vault_tables.specs.declared.versions.TheConstants.{SET_SECOND}
 use Rattle.vault_schema.specs.declared.version.Version.TheVariants.{One, Two}
-use Rattle.vault_schema.proofs.Version2.Making.{makes_second, with_cards, with_entries}
-use Rattle.vault_schema.proofs.Version2.Texts.{empty_entries_is, set_version_is}
-use Rattle.vault_cards.specs.Calls.{IsWithin}
+use Rattle.vault_tables.proofs.SecondMaking.{makes_second, with_cards, with_entries}
+use Rattle.vault_tables.specs.VersionTexts.{empty_entries_is, set_version_is}
+use Rattle.vault_tables.specs.Calls.{IsWithin}
 use Rattle.vault_steps.specs.Entries.{AreEntriesOf, with_all, without_entries}
 use Rattle.vault_steps.specs.Room.{AreNumbered, entries_going, tables_made}
 use Rattle.vault_steps.specs.declared.room.TheConstants.{DROP_ENTRIES}
 use Rattle.vault_steps.proofs.Entered.{all_entered}
-use Rattle.vault_steps.proofs.Inside.{Did, closed, index_in, ran_in, table_in}
+use Rattle.vault_tables.proofs.Inside.{Did, closed, index_in, ran_in, table_in}
 
 -- the entries are gone, and then the version is that of schema 2
 abbrev emptied : Lookups → List Claim
@@ -146,11 +150,11 @@ module _ (h : Lookups) (base : Database) where
       let did = ran w.inside in
       let run : Ran v2 (entries_going h) base old new DROP_ENTRIES.now params =
       record { within = w; count = did.0; ran = did.1; limit = steps.limit } in
-      let wrote = delete_wrote v2 refl one.entries DROP_ENTRIES.now params old new did.0 3 refl
+      let wrote = delete_wrote v2 refl old_entries DROP_ENTRIES.now params old new did.0 3 refl
       w.stands.schema did.1.0 _ drop_entries_is in
-      let numbered = claimed v2.tables (entries_going h) 3 (table_of one.entries) old.now.trees refl
+      let numbered = claimed v2.tables (entries_going h) 3 (table_of old_entries) old.now.trees refl
       w.stands.rows in
-      written refl run wrote.3 one.entries 3 refl (ids_of wrote.0) [] AreNumbered wrote.2
+      written refl run wrote.3 old_entries 3 refl (ids_of wrote.0) [] AreNumbered wrote.2
       (λ r there. numbered r (left_of (ids_of wrote.0) (old.now.trees 5) r there))
 
 -- entries went, and nothing else was done
@@ -160,15 +164,15 @@ AreDropped old new =
     → Within v2 (entries_going h) base old → Within v2 (entries_going h) base new)
 
 module _ (h : Lookups) {base : Database} {d e f : State} (w : Within v2 (entries_going h) base d)
-    (four' : Steps d e) (five' : Steps e f) (empty : Did EMPTY_ENTRIES.now d e)
-    (version : Did SET_VERSION.now e f) where
+    (four' : Steps d e) (five' : Steps e f) (empty : Did EMPTY_OLD_ENTRIES.now d e)
+    (version : Did SET_SECOND.now e f) where
   after_empty : Within v2 (emptied h) base e
-  after_empty = empty_in refl (ran_in four' empty w) one.entries 3 refl (empty_entries_is [] [])
+  after_empty = empty_in refl (ran_in four' empty w) old_entries 3 refl (empty_entries_is [] [])
       (λ said r there. said r there)
 
   after_version : Within v2 (versioned h) base f
   after_version =
-      change_one refl (ran_in five' version after_empty) one.vault 0 refl _ _ (set_version_is [] []) (pos 1)
+      change_one refl (ran_in five' version after_empty) vault 0 refl _ _ (set_version_is [] []) (pos 1)
       (Null ∷ Int (pos 1) ∷ []) (Null ∷ Int (pos 2) ∷ []) (λ said. said) (rw (int_eq (pos 1) (pos 1)) refl)
       refl refl
 

@@ -1,8 +1,5 @@
 pub mod CardStep
 pub mod Climbing
 pub mod Entered
-pub mod Inside
-pub mod MerchantTables
+pub mod Making
 pub mod PartsByVersion
-pub mod Replacing
-pub mod RightTables

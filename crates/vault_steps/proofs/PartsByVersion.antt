@@ -1,18 +1,21 @@
 -- The rows of a database tell each part of what they stand for, in whatever version.
 use Rattle.std.proofs.Common.{◌≡◌, ◌∙◌, true, false, option_map, refl, sym}
 use Rattle.sqlite.specs.Tree.{Trees}
-use Rattle.sql_maps.proofs.Determined.{same_at_ids}
-use Rattle.sql_maps.specs.States.{StandsIn}
-use Rattle.vault_schema.proofs.Version1.Codes as one
-use Rattle.vault_schema.proofs.Version2.Codes.{card_back, pointing_coding}
-use Rattle.vault_schema.specs.Version2.Joined.{joined}
+use Rattle.sql_tables.proofs.Determined.{same_at_ids}
+use Rattle.sql_tables.specs.States.{StandsIn}
+use Rattle.vault_schema.proofs.CountCodes.{count_coding}
+use Rattle.vault_schema.proofs.EntryCodes.{entry_coding}
+use Rattle.vault_schema.proofs.RecordCodes.{record_coding}
+use Rattle.vault_schema.proofs.CardCodes.{card_back}
+use Rattle.vault_schema.proofs.EntryCodes.{pointing_coding}
+use Rattle.vault_schema.specs.Joined.{joined}
 use Rattle.vault_schema.proofs.ByTable.{AreHeld, first_entries, held, joined_cards, joined_pointing}
 use Rattle.vault_schema.specs.Layers.{Either}
 use Rattle.vault_schema.specs.Versions.{Lookups, Stand, StandJoined, has_cards, schema_of, uncarded_claims}
 use Rattle.vault_schema.specs.declared.version.Version.{Version}
-use Rattle.vault_steps.proofs.MerchantTables.{same_merchants}
-use Rattle.vault_steps.proofs.Replacing.{alike}
-use Rattle.vault_steps.proofs.RightTables.{same_rights}
+use Rattle.vault_tables.proofs.OldMerchants.{same_merchants}
+use Rattle.vault_tables.proofs.Replacing.{alike}
+use Rattle.vault_tables.proofs.OldRights.{same_rights}
 
 module _ (h k : Lookups) where
   -- entries are those that point, with their cards
@@ -50,12 +53,12 @@ module _ (v : Version) (db : Trees) (h k : Lookups) (a : Stand v db h) (b : Stan
             (same_at_ids card_back (joined_cards v db h has i) (joined_cards v db k has j))
             (alike pointing_coding (joined_pointing v db h has i) (joined_pointing v db k has j))
         | false ↦ λ none i j.
-            alike one.entry_coding (first_entries v db h none i) (first_entries v db k none j)
+            alike entry_coding (first_entries v db h none i) (first_entries v db k none j)
       ] refl a.rows b.rows
 
   pub one_stand : h ≡ k
   one_stand =
       all_same h k (same_merchants v db h k a b)
-      (alike one.count_coding (first.hold.1.1.0 refl) (other.hold.1.1.0 refl)) same_entries
-      (alike one.record_coding (first.hold.1.1.1.1.0 refl) (other.hold.1.1.1.1.0 refl))
+      (alike count_coding (first.hold.1.1.0 refl) (other.hold.1.1.0 refl)) same_entries
+      (alike record_coding (first.hold.1.1.1.1.0 refl) (other.hold.1.1.1.1.0 refl))
       (same_rights v db h k a b)

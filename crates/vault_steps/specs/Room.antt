@@ -4,7 +4,7 @@ use Rattle.sqlite.specs.Order.{Row}
 use Rattle.sqlite.specs.Tree.{rowid}
 use Rattle.sqlite.specs.View.{is_int}
 use Rattle.sqlite_rules.specs.Lists.{Has}
-use Rattle.sql_maps.specs.States.{Claim, IsEmpty, at_place}
+use Rattle.sql_tables.specs.States.{Claim, IsEmpty, at_place}
 use Rattle.vault_schema.specs.Versions.{Lookups, first_claims}
 
 -- those of cards and of entries that point at them came, and are empty

@@ -1,21 +1,21 @@
 //! The step from schema 1 to schema 2: each number stands once a merchant, on a card.
 ghost use Rattle.std.specs.Prelude.{◌<◌, ◌^◌};
 ghost use Rattle.std.specs.List.{All};
-ghost use Rattle.sql_maps.specs.Transactions.{Inside, LeadsTo};
-ghost use Rattle.vault_cards.specs.Calls.{MakesInEach};
+ghost use Rattle.sql_tables.specs.Transactions.{Inside, LeadsTo};
+ghost use Rattle.vault_tables.specs.Calls.{MakesInEach};
 ghost use Rattle.vault_schema.specs.Versions.{WithinOf};
 ghost use Rattle.vault_steps.specs.Entries.{AreEntriesOf, AreStorable, joined, with_all};
 
 use crate::entries::Piece;
 use crate::room::make_room;
-use sql_stored::fault::StoreFault;
+use sql_tables::fault::StoreFault;
 use sqlite::{Alter, Transaction};
-use vault_cards::pointing::add_entry;
 use vault_core::name::MerchantId;
 use vault_core::row::Entry;
 use vault_pan::token::Token;
 use vault_schema::version::Version;
 use vault_tables::columns::merchant_text;
+use vault_tables::entries::add_entry;
 
 /// Writes new entries, one after the other.
 fn put_entries<S: Alter>(

@@ -1,19 +1,20 @@
 //! Room for schema 2: its tables are made, and the entries of schema 1 go.
-ghost use Rattle.sql_maps.specs.States.{Within};
-ghost use Rattle.sql_maps.specs.Transactions.{LeadsTo};
-ghost use Rattle.vault_cards.specs.Calls.{IsWithin};
-ghost use Rattle.vault_schema.specs.Version2.Tables.{v2};
+ghost use Rattle.sql_tables.specs.States.{Within};
+ghost use Rattle.sql_tables.specs.Transactions.{LeadsTo};
+ghost use Rattle.vault_tables.specs.Calls.{IsWithin};
+ghost use Rattle.vault_schema.specs.Schemas.{v2};
 ghost use Rattle.vault_schema.specs.Versions.{WithinOf};
 ghost use Rattle.vault_steps.specs.Entries.{without_entries};
 ghost use Rattle.vault_steps.specs.Room.{entries_going, tables_made};
 
 use crate::entries::PIECE;
-use sql_maps::run::step;
+use sql_tables::run::step;
 use sqlite::{Alter, Error, Transaction, params};
-use vault_schema::v2::{
-    CREATE_CARDS, CREATE_ENTRIES, CREATE_ENTRIES_CARD, EMPTY_ENTRIES, SET_VERSION,
-};
 use vault_schema::version::Version;
+use vault_tables::cards::CREATE_CARDS;
+use vault_tables::entries::old::EMPTY_OLD_ENTRIES;
+use vault_tables::entries::{CREATE_ENTRIES, CREATE_ENTRIES_CARD};
+use vault_tables::versions::SET_SECOND;
 
 /// Takes the entries of schema 1 away whose rowids aren't above this one.
 const DROP_ENTRIES: &str = "DELETE FROM entries WHERE rowid <= ?1";
@@ -49,6 +50,6 @@ pub(crate) fn make_room<S: Alter>(tx: &mut Transaction<'_, S>, pieces: usize) ->
 {
     make_tables(tx)?;
     drop_entries(tx, pieces)?;
-    step(tx, EMPTY_ENTRIES, &[])?;
-    step(tx, SET_VERSION, &[])
+    step(tx, EMPTY_OLD_ENTRIES, &[])?;
+    step(tx, SET_SECOND, &[])
 }

@@ -1,4 +1,12 @@
+pub mod Calls
+pub mod CardTexts
+pub mod CardUses
+pub mod CountTexts
+pub mod EntryTexts
 pub mod MerchantTexts
-pub mod Merchants
+pub mod Raising
+pub mod RecordTexts
 pub mod RightTexts
-pub mod Rights
+pub mod Shown
+pub mod Taken
+pub mod VersionTexts

@@ -1,22 +1,37 @@
 -- What the texts of merchants mean, and how each version of the table is read whole.
-use Rattle.std.specs.Prelude.{◌++◌, [], ◌∷◌, refl}
-use Rattle.sqlite_tied.specs.Compute.{everything}
+use Rattle.std.specs.Prelude.{◌++◌, [], ◌∷◌, refl, pos, string_bytes}
 use Rattle.sqlite.specs.Listing.{understood}
+use Rattle.sqlite.specs.Order.{Row}
 use Rattle.sqlite.specs.Term.{col}
-use Rattle.sql_maps.proofs.ConstantColumns.{constants}
-use Rattle.sql_maps.specs.Texts.{IsQuery, IsWrite, counting_of, ordered_by, sorted_of}
-use Rattle.sql_stored.proofs.Scans.{columns_of, filled_scan, present_scan}
-use Rattle.sql_stored.specs.Keyed.{finding, putting}
-use Rattle.sql_stored.specs.Scans.{IdScan, Scan, ScansTree}
+use Rattle.sqlite.specs.declared.types.Value.TheVariants.{Int, Text}
+use Rattle.sqlite_tied.specs.Compute.{everything}
+use Rattle.sql_tables.proofs.ConstantColumns.{constants, filled}
+use Rattle.sql_tables.proofs.Scans.{columns_of, filled_scan, present_scan}
+use Rattle.sql_tables.specs.Keyed.{finding, putting}
+use Rattle.sql_tables.specs.Scans.{IdScan, Scan, ScansTree}
+use Rattle.sql_tables.specs.Texts.{IsQuery, IsWrite, counting_of, ordered_by, sorted_of}
 use Rattle.vault_rules.specs.declared.rows.RawMerchant.{RawMerchant}
+use Rattle.vault_schema.specs.Merchants.{old_merchants, merchants}
 use Rattle.vault_schema.specs.Schema.{newest_schema}
-use Rattle.vault_schema.specs.Version1.Tables as one
-use Rattle.vault_schema.specs.Version1.Tables.{v1}
-use Rattle.vault_schema.specs.Version3.{merchants, v3}
-use Rattle.vault_tables.specs.Merchants.{first_lead, merchant_values}
+use Rattle.vault_schema.specs.Schemas.{v1, v3}
 use Rattle.vault_tables.specs.declared.merchants.TheConstants.{COUNT_MERCHANTS, FIND_LIVES, PUT_MERCHANT}
 use Rattle.vault_tables.specs.declared.merchants.TheConstants.{READ_MERCHANTS}
 use Rattle.vault_tables.specs.declared.merchants.old.TheConstants.{READ_MERCHANT_IDS, READ_OLD_MERCHANTS}
+
+-- a row of `merchants3`, with its rowid in front
+abbrev pub merchant_values : RawMerchant → Row
+merchant_values m =
+    Int m.rowid ∷ Text (string_bytes m.name) ∷ Int m.single_life ∷ Int m.multi_life ∷ Int m.moment
+    ∷ Int m.lead ∷ []
+
+-- what a merchant had before schema 3, beside its row: its masks show six digits at the left at most
+abbrev pub first_lead : Row
+first_lead = Int (pos 6) ∷ []
+
+abbrev pub with_first_lead : Row → Row
+with_first_lead = filled first_lead
+
+-- ---- the texts
 
 -- ---- the newest version
 
@@ -49,7 +64,7 @@ merchant_scan =
 -- ---- before schema 3
 
 pub read_old_merchants_is : ScansTree v1 READ_OLD_MERCHANTS.now 1
-    (columns_of one.merchants ++ constants first_lead)
+    (columns_of old_merchants ++ constants first_lead)
 unfolding understood everything
 read_old_merchants_is ts is = record { names = _; is = refl; plain = (refl, refl); unlisted = refl }
 
@@ -59,7 +74,7 @@ read_merchant_ids_is ts is = record { names = _; is = refl; plain = (refl, refl)
 
 abbrev pub old_merchant_scan : Scan RawMerchant
 old_merchant_scan =
-    filled_scan merchant_values (λ m. m.rowid) (λ m. refl) v1 READ_OLD_MERCHANTS.now one.merchants 1 refl refl
+    filled_scan merchant_values (λ m. m.rowid) (λ m. refl) v1 READ_OLD_MERCHANTS.now old_merchants 1 refl refl
     first_lead 3 refl refl read_old_merchants_is
 
 abbrev pub merchant_id_scan : IdScan

@@ -1,21 +1,37 @@
 -- What the texts of rights mean, and how each version of the table is read whole.
-use Rattle.std.specs.Prelude.{◌++◌, [], ◌∷◌, refl}
-use Rattle.sqlite_tied.specs.Compute.{everything}
+use Rattle.std.specs.Prelude.{◌++◌, [], ◌∷◌, refl, string_bytes}
 use Rattle.sqlite.specs.Listing.{understood}
+use Rattle.sqlite.specs.Order.{Row}
 use Rattle.sqlite.specs.Term.{col}
-use Rattle.sql_maps.proofs.ConstantColumns.{constants}
-use Rattle.sql_maps.specs.Texts.{IsQuery, IsWrite, ordered_by, sorted_of}
-use Rattle.sql_stored.proofs.Scans.{columns_of, filled_scan, long_scan}
-use Rattle.sql_stored.specs.Keyed.{finding, putting, taking}
-use Rattle.sql_stored.specs.Scans.{IdScan, Scan, ScansTree}
+use Rattle.sqlite.specs.declared.types.Value.TheVariants.{Int, Null, Text}
+use Rattle.sqlite_tied.specs.Compute.{everything}
+use Rattle.sql_tables.proofs.ConstantColumns.{constants, filled}
+use Rattle.sql_tables.proofs.Scans.{columns_of, filled_scan, long_scan}
+use Rattle.sql_tables.specs.Keyed.{finding, putting, taking}
+use Rattle.sql_tables.specs.Scans.{IdScan, Scan, ScansTree}
+use Rattle.sql_tables.specs.Texts.{IsQuery, IsWrite, ordered_by, sorted_of}
+use Rattle.sql_tables.specs.Values.{int_value}
 use Rattle.vault_rules.specs.declared.rows.RawRight.{RawRight}
+use Rattle.vault_schema.specs.Rights.{old_rights, rights}
 use Rattle.vault_schema.specs.Schema.{newest_schema}
-use Rattle.vault_schema.specs.Version1.Tables as one
-use Rattle.vault_schema.specs.Version1.Tables.{v1}
-use Rattle.vault_schema.specs.Version4.{rights, v4}
-use Rattle.vault_tables.specs.Rights.{first_end, right_values}
+use Rattle.vault_schema.specs.Schemas.{v1, v4}
 use Rattle.vault_tables.specs.declared.rights.TheConstants.{FIND_RIGHT, GIVE_RIGHT, READ_RIGHTS, TAKE_RIGHT}
 use Rattle.vault_tables.specs.declared.rights.old.TheConstants.{READ_OLD_RIGHTS, READ_RIGHT_IDS}
+
+-- a row of `rights4`, with its rowid in front
+abbrev pub right_values : RawRight → Row
+right_values r =
+    Int r.rowid ∷ Text (string_bytes r.caller) ∷ Text (string_bytes r.merchant) ∷ Int r.what
+    ∷ int_value r.ends ∷ []
+
+-- what a right had before schema 4, beside its row: no end
+abbrev pub first_end : Row
+first_end = Null ∷ []
+
+abbrev pub with_first_end : Row → Row
+with_first_end = filled first_end
+
+-- ---- the texts
 
 -- ---- the newest version
 
@@ -46,7 +62,7 @@ right_scan =
 
 -- ---- before schema 4
 
-pub read_old_rights_is : ScansTree v1 READ_OLD_RIGHTS.now 10 (columns_of one.rights ++ constants first_end)
+pub read_old_rights_is : ScansTree v1 READ_OLD_RIGHTS.now 10 (columns_of old_rights ++ constants first_end)
 unfolding understood everything
 read_old_rights_is ts is = record { names = _; is = refl; plain = (refl, refl); unlisted = refl }
 
@@ -56,7 +72,7 @@ read_right_ids_is ts is = record { names = _; is = refl; plain = (refl, refl); u
 
 abbrev pub old_right_scan : Scan RawRight
 old_right_scan =
-    filled_scan right_values (λ r. r.rowid) (λ r. refl) v1 READ_OLD_RIGHTS.now one.rights 5 refl refl
+    filled_scan right_values (λ r. r.rowid) (λ r. refl) v1 READ_OLD_RIGHTS.now old_rights 5 refl refl
     first_end 2 refl refl read_old_rights_is
 
 abbrev pub right_id_scan : IdScan

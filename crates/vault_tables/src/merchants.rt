@@ -1,28 +1,58 @@
 //! The table of merchants: how long their tokens live, how many digits their masks show, and their moment.
 pub mod old;
 
-ghost use Rattle.std.specs.Prelude.{◌≡◌, ◌<◌, ◌^◌, Some, IfOk};
-ghost use Rattle.sqlite.specs.Effect.{Database};
-ghost use Rattle.sqlite.specs.Held.{state};
-ghost use Rattle.sqlite.specs.State.{HasCleanDisk};
-ghost use Rattle.sql_maps.specs.Rows.{put as put_at};
-ghost use Rattle.sql_maps.specs.States.{Reads, Stands, Within};
-ghost use Rattle.sql_maps.specs.Transactions.{Rewrites, Proceeds};
+ghost use Rattle.sql_tables.specs.Transactions.{Between, Inside};
+ghost use Rattle.vault_tables.specs.Calls.{TellsTables, Makes, TellsInside};
+ghost use Rattle.std.specs.Prelude.{◌≡◌, ◌↔◌, ◌<◌, ◌^◌, None, Some, IsTrue};
 ghost use Rattle.vault_core.specs.Keys.{bytes_cmp};
+ghost use Rattle.vault_schema.specs.Versions.{newest, Tables};
+ghost use Rattle.sql_tables.specs.Rows.{put as put_at};
 ghost use Rattle.vault_schema.specs.Schema.{newest_schema};
 ghost use Rattle.vault_schema.specs.Stands.{newest_claims};
-ghost use Rattle.vault_schema.specs.Versions.{Tables};
 
 use crate::columns::{lead_in, moment_in};
-use sql_stored::columns::Columns;
-use sql_stored::fault::StoreFault;
-use sql_stored::keyed::{self, Finds, Puts, Stored};
-use sql_stored::raws::Raw;
-use sql_stored::whole::Whole;
+use sql_tables::columns::Columns;
+use sql_tables::fault::StoreFault;
+use sql_tables::keyed::{self, Finds, Puts, Stored};
+use sql_tables::raws::Raw;
+use sql_tables::shapes::ColumnShape::Present;
+use sql_tables::shapes::{IndexShape, TableShape};
+use sql_tables::whole::Whole;
 use sqlite::{Alter, Connection, Error, Row, Transaction, params};
+use sqlite_schema::schema::Kind::{Integer, Text};
 use vault_core::name::MerchantId;
 use vault_core::row::Lives;
 use vault_rules::rows::RawMerchant;
+
+/// Makes the table of merchants.
+pub const CREATE_MERCHANTS: &str = "\
+    CREATE TABLE merchants3 (name TEXT NOT NULL PRIMARY KEY, single_life INTEGER NOT NULL, \
+    multi_life INTEGER NOT NULL, moment INTEGER NOT NULL, lead_digits INTEGER NOT NULL) STRICT";
+
+/// Merchants by name, each with its lead.
+pub(crate) const MERCHANTS_SHAPE: TableShape<'static> = TableShape {
+    name: "merchants3",
+    tree: 17,
+    columns: &[
+        Present("name", Text),
+        Present("single_life", Integer),
+        Present("multi_life", Integer),
+        Present("moment", Integer),
+        Present("lead_digits", Integer),
+    ],
+    rowid: None,
+    primary: &[1],
+    uniques: &[&[1]],
+};
+
+/// The key of merchants.
+pub(crate) const MERCHANTS_KEY: IndexShape<'static> = IndexShape {
+    name: "sqlite_autoindex_merchants3_1",
+    tree: 18,
+    table: 17,
+    columns: &[1],
+    is_unique: true,
+};
 
 /// The whole of `merchants3`, by its rowid.
 pub const READ_MERCHANTS: &str = "\
@@ -45,7 +75,7 @@ pub const COUNT_MERCHANTS: &str = "SELECT count(*) FROM merchants3";
 pub struct Merchants;
 
 impl Raw for Merchants {
-    ghost use Rattle.vault_tables.specs.Merchants.{merchant_values};
+    ghost use Rattle.vault_tables.specs.MerchantTexts.{merchant_values};
 
     type Of = RawMerchant;
 
@@ -87,8 +117,9 @@ impl Stored for Merchants {
     ghost use Rattle.vault_schema.proofs.Newest.{merchant_table};
     ghost use Rattle.vault_schema.specs.Schema.{newest_schema};
     ghost use Rattle.vault_schema.specs.Stands.{newest_claims};
-    ghost use Rattle.vault_schema.specs.Version1.Rows.{merchant_key};
-    ghost use Rattle.vault_schema.specs.Versions.{Tables, lives_columns};
+    ghost use Rattle.vault_schema.specs.Merchants.{merchant_key};
+    ghost use Rattle.vault_schema.specs.Versions.{Tables};
+    ghost use Rattle.vault_schema.specs.Merchants.{lives_columns};
 
     type Key = MerchantId;
 
@@ -121,7 +152,8 @@ impl Stored for Merchants {
 
 impl Finds for Merchants {
     ghost use Rattle.vault_tables.specs.MerchantTexts.{lives_is};
-    ghost use Rattle.vault_tables.specs.Merchants.{ShowsLives, lives_told};
+    ghost use Rattle.vault_schema.specs.Merchants.{ShowsLives};
+    ghost use Rattle.vault_schema.proofs.MerchantCodes.{lives_told};
     ghost use Rattle.vault_tables.specs.declared.merchants.TheConstants.{FIND_LIVES};
 
     ghost found_by = { FIND_LIVES.now };
@@ -165,40 +197,27 @@ impl Puts for Merchants {
 
 /// The lives of a merchant.
 pub fn find<S: Alter>(conn: &mut Connection<S>, m: &str) -> Result<Option<Lives>, StoreFault>
-    // it only reads: no doubt goes away, and in the newest schema, on an honest disk, nothing changes with Ok
-    ensures reads { Reads newest_schema result (state S.Store conn.old) (state S.Store conn.new) }
-    // with Ok, on an honest disk, these are the merchant's lives, or none, in what the newest tables stand
-    // for
-    ensures told { HasCleanDisk (state S.Store conn.new) → IfOk result (λ found. (t : Tables)
-        → Stands newest_schema (newest_claims t) (state S.Store conn.old).now
-        → found ≡ t.merchants m.now) }
+    ensures { Between S.Store conn.old conn.new (TellsTables result (λ t found. found ≡ t.merchants m.now)) }
 {
     keyed::find::<S, Merchants>(conn, params![m])
 }
 
 /// The lives of a merchant, inside a transaction.
-pub fn find_in<S: Alter>(tx: &mut Transaction<'_, S>, m: &str) -> Result<Option<Lives>, StoreFault>
-    // the transaction is over the same connection, and on an honest disk a crash leaves nothing new
-    ensures goes_on { Proceeds S.Store tx.old tx.new }
-    // with Ok, on an honest disk, the newest tables stand for what they did, and these are the merchant's
-    // lives in it, or none
-    ensures told { HasCleanDisk (state S.Store tx.new.conn.now) → IfOk result (λ found. (base : Database)
-        (t : Tables) → Within newest_schema (newest_claims t) base (state S.Store tx.old.conn.now)
-        → (found ≡ t.merchants m.now)
-        × Within newest_schema (newest_claims t) base (state S.Store tx.new.conn.now)) }
+fn find_in<S: Alter>(tx: &mut Transaction<'_, S>, m: &str) -> Result<Option<Lives>, StoreFault>
+    ensures { Inside S.Store tx.old tx.new (TellsInside newest result
+        (λ t found. found ≡ t.merchants m.now)) }
 {
     keyed::find_in::<S, Merchants>(tx, params![m])
 }
 
-/// Writes the lives, the moment and the lead of a merchant, whether or not it was there.
+/// Writes the own row of a merchant, whether or not it was there.
 pub fn put<S: Alter>(tx: &mut Transaction<'_, S>, m: &str, x: &Lives) -> Result<(), Error>
     // the life of single-use tokens fits its column
     requires single { x.now.single_life < 2 ^ 63 }
     // the life of multi-use tokens fits its column
     requires multi { x.now.multi_life < 2 ^ 63 }
-    // with Ok, on an honest disk, what the newest tables stand for changes by just these lives
-    ensures { Rewrites S.Store tx.old tx.new newest_schema newest_claims result
-        (λ t. record t { merchants = put_at bytes_cmp t.merchants m.now (Some x.now) }) }
+    ensures { Inside S.Store tx.old tx.new (Makes newest result
+        (λ _. Unit {0}) (λ h. record h { merchants = put_at bytes_cmp h.merchants m.now (Some x.now) })) }
 {
     let moment = x.moment.seconds();
     let lead = x.lead.digits();
@@ -212,4 +231,40 @@ pub fn put<S: Alter>(tx: &mut Transaction<'_, S>, m: &str, x: &Lives) -> Result<
             lead as i64
         ],
     )
+}
+
+/// Whether these are the same, with all that a merchant's own row has.
+fn are_same(x: &Lives, y: &Lives) -> bool
+    ensures { IsTrue result ↔ (x.now ≡ y.now) }
+{
+    x == y
+}
+
+/// Whether a merchant's own row has these lives, and all else as here, inside a transaction.
+fn has_lives<S: Alter>(tx: &mut Transaction<'_, S>, m: &str, x: &Lives) -> Result<bool, StoreFault>
+    ensures { Inside S.Store tx.old tx.new (TellsInside newest result
+        (λ t has. IsTrue has ↔ (t.merchants m.now ≡ Some x.now))) }
+{
+    match find_in(tx, m)? {
+        Some(found) => Ok(are_same(&found, x)),
+        None => Ok(false),
+    }
+}
+
+/// Writes the own row of a merchant where it has another or isn't there: a look costs less than a write, and
+/// within a second a merchant's moment stays.
+pub fn set_lives<S: Alter>(
+    tx: &mut Transaction<'_, S>,
+    m: &str,
+    x: &Lives,
+) -> Result<(), StoreFault>
+    requires single { x.now.single_life < 2 ^ 63 }
+    requires multi { x.now.multi_life < 2 ^ 63 }
+    ensures { Inside S.Store tx.old tx.new (Makes newest result
+        (λ _. Unit {0}) (λ h. record h { merchants = put_at bytes_cmp h.merchants m.now (Some x.now) })) }
+{
+    if has_lives(tx, m, x)? {
+        return Ok(());
+    }
+    Ok(put(tx, m, x)?)
 }

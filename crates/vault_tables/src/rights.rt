@@ -1,29 +1,59 @@
 //! The table of rights: what a caller may do at a merchant, and until when.
 pub mod old;
 
-ghost use Rattle.std.specs.Prelude.{◌≡◌, None, Some, IfOk};
-ghost use Rattle.sqlite.specs.Held.{state};
-ghost use Rattle.sqlite.specs.State.{HasCleanDisk};
-ghost use Rattle.sql_maps.specs.Rows.{put};
-ghost use Rattle.sql_maps.specs.States.{Reads, Stands};
-ghost use Rattle.sql_maps.specs.Transactions.{Rewrites};
+ghost use Rattle.sql_tables.specs.Transactions.{Between, Inside};
+ghost use Rattle.vault_tables.specs.Calls.{TellsTables, Makes};
+ghost use Rattle.std.specs.Prelude.{◌≡◌, None, Some};
 ghost use Rattle.vault_core.specs.Keys.{right_cmp};
+ghost use Rattle.vault_schema.specs.Versions.{newest, Tables};
+ghost use Rattle.sql_tables.specs.Rows.{put as put_at};
 ghost use Rattle.vault_schema.specs.Schema.{newest_schema};
 ghost use Rattle.vault_schema.specs.Stands.{newest_claims};
-ghost use Rattle.vault_schema.specs.Versions.{Tables};
 
 use crate::columns::{moment_or_null_in, moment_value};
-use sql_stored::columns::Columns;
-use sql_stored::fault::StoreFault;
-use sql_stored::keyed::{self, Finds, Puts, Stored, Takes};
-use sql_stored::raws::Raw;
-use sql_stored::whole::Whole;
+use sql_tables::columns::Columns;
+use sql_tables::fault::StoreFault;
+use sql_tables::keyed::{self, Finds, Puts, Stored, Takes};
+use sql_tables::raws::Raw;
+use sql_tables::shapes::ColumnShape::{Optional, Present};
+use sql_tables::shapes::{IndexShape, TableShape};
+use sql_tables::whole::Whole;
 use sqlite::types::ToSql;
 use sqlite::{Alter, Connection, Error, Row, Transaction, params};
+use sqlite_schema::schema::Kind::{Integer, Text};
 use vault_core::name::{Caller, MerchantId};
 use vault_core::right::Right;
 use vault_core::row::GrantRow;
 use vault_rules::rows::RawRight;
+
+/// Makes the table of rights.
+pub const CREATE_RIGHTS: &str = "\
+    CREATE TABLE rights4 (caller TEXT NOT NULL, merchant TEXT NOT NULL, what INTEGER NOT NULL, \
+    ends INTEGER, PRIMARY KEY (caller, merchant, what)) STRICT";
+
+/// Rights, each with its end.
+pub(crate) const RIGHTS_SHAPE: TableShape<'static> = TableShape {
+    name: "rights4",
+    tree: 19,
+    columns: &[
+        Present("caller", Text),
+        Present("merchant", Text),
+        Present("what", Integer),
+        Optional("ends", Integer),
+    ],
+    rowid: None,
+    primary: &[1, 2, 3],
+    uniques: &[&[1, 2, 3]],
+};
+
+/// The key of rights.
+pub(crate) const RIGHTS_KEY: IndexShape<'static> = IndexShape {
+    name: "sqlite_autoindex_rights4_1",
+    tree: 20,
+    table: 19,
+    columns: &[1, 2, 3],
+    is_unique: true,
+};
 
 /// The whole of `rights4`, by its rowid.
 pub const READ_RIGHTS: &str =
@@ -46,7 +76,7 @@ pub const TAKE_RIGHT: &str =
 pub struct Rights;
 
 impl Raw for Rights {
-    ghost use Rattle.vault_tables.specs.Rights.{right_values};
+    ghost use Rattle.vault_tables.specs.RightTexts.{right_values};
 
     type Of = RawRight;
 
@@ -87,8 +117,8 @@ impl Stored for Rights {
     ghost use Rattle.vault_schema.proofs.Newest.{right_table};
     ghost use Rattle.vault_schema.specs.Schema.{newest_schema};
     ghost use Rattle.vault_schema.specs.Stands.{newest_claims};
-    ghost use Rattle.vault_schema.specs.Version1.Rows.{right_key};
-    ghost use Rattle.vault_schema.specs.Version4.{ends_column};
+    ghost use Rattle.vault_schema.specs.Rights.{right_key};
+    ghost use Rattle.vault_schema.specs.Rights.{ends_column};
     ghost use Rattle.vault_schema.specs.Versions.{Tables};
 
     type Key = (Caller, (MerchantId, Right));
@@ -123,9 +153,9 @@ impl Stored for Rights {
 impl Finds for Rights {
     ghost use Rattle.std.specs.Prelude.{◌≡◌};
     ghost use Rattle.sqlite.specs.Order.{column};
-    ghost use Rattle.vault_schema.specs.Version1.Rows.{number_or_null};
+    ghost use Rattle.vault_schema.specs.Values.{number_or_null};
     ghost use Rattle.vault_tables.specs.RightTexts.{right_is};
-    ghost use Rattle.vault_tables.specs.Rights.{ends_told};
+    ghost use Rattle.vault_schema.proofs.RightCodes.{ends_told};
     ghost use Rattle.vault_tables.specs.declared.rights.TheConstants.{FIND_RIGHT};
 
     ghost found_by = { FIND_RIGHT.now };
@@ -179,13 +209,8 @@ pub fn find<S: Alter>(
     m: &str,
     right: Right,
 ) -> Result<Option<GrantRow>, StoreFault>
-    // it only reads: no doubt goes away, and in the newest schema, on an honest disk, nothing changes with Ok
-    ensures reads { Reads newest_schema result (state S.Store conn.old) (state S.Store conn.new) }
-    // with Ok, on an honest disk, this is the right with its end, or none, in what the newest tables stand
-    // for
-    ensures told { HasCleanDisk (state S.Store conn.new) → IfOk result (λ found. (t : Tables)
-        → Stands newest_schema (newest_claims t) (state S.Store conn.old).now
-        → found ≡ t.rights (caller.now, (m.now, right))) }
+    ensures { Between S.Store conn.old conn.new (TellsTables result
+        (λ t found. found ≡ t.rights (caller.now, (m.now, right)))) }
 {
     let what = right.number();
     keyed::find::<S, Rights>(conn, params![caller, m, what as i64])
@@ -199,8 +224,9 @@ pub fn give<S: Alter>(
     right: Right,
     row: GrantRow,
 ) -> Result<(), Error>
-    ensures { Rewrites S.Store tx.old tx.new newest_schema newest_claims result
-        (λ t. record t { rights = put right_cmp t.rights (caller.now, (m.now, right)) (Some row) }) }
+    ensures { Inside S.Store tx.old tx.new (Makes newest result
+        (λ _. Unit {0})
+        (λ h. record h { rights = put_at right_cmp h.rights (caller.now, (m.now, right)) (Some row) })) }
 {
     let what = right.number();
     keyed::put::<S, Rights>(
@@ -221,8 +247,9 @@ pub fn take<S: Alter>(
     m: &str,
     right: Right,
 ) -> Result<(), Error>
-    ensures { Rewrites S.Store tx.old tx.new newest_schema newest_claims result
-        (λ t. record t { rights = put right_cmp t.rights (caller.now, (m.now, right)) None }) }
+    ensures { Inside S.Store tx.old tx.new (Makes newest result
+        (λ _. Unit {0})
+        (λ h. record h { rights = put_at right_cmp h.rights (caller.now, (m.now, right)) None })) }
 {
     let what = right.number();
     keyed::take::<S, Rights>(tx, params![caller, m, what as i64])

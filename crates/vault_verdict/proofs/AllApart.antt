@@ -3,9 +3,12 @@ use Rattle.std.proofs.Common.{◌≡◌, ℕ, Bool, List, [], ◌∷◌, IsTrue,
 use Rattle.std.proofs.lemmas.Bool.{and_from, and_parts}
 use Rattle.std.specs.List.{list_all}
 use Rattle.vault_verdict.specs.Apart.{AreApart, AreByRowid, TellsApart}
-use Rattle.vault_tables.specs.Merchants.{merchant_values}
-use Rattle.vault_tables.specs.Rights.{right_values}
-use Rattle.vault_verdict.specs.Raw.{card_row, count_values, entry_values, record_values}
+use Rattle.vault_tables.specs.MerchantTexts.{merchant_values}
+use Rattle.vault_tables.specs.RightTexts.{right_values}
+use Rattle.vault_tables.specs.CardTexts.{card_row}
+use Rattle.vault_tables.specs.CountTexts.{count_values}
+use Rattle.vault_tables.specs.EntryTexts.{entry_values}
+use Rattle.vault_tables.specs.RecordTexts.{record_values}
 use Rattle.vault_rules.specs.AllRows.{Rows}
 use Rattle.vault_rules.specs.Seen.{HasRows}
 use Rattle.vault_rules.specs.declared.records.Records.{Records}

@@ -13,23 +13,23 @@ use Rattle.sqlite.specs.declared.types.Value.TheVariants.{Null, Int, Text}
 use Rattle.sqlite_rules.specs.Lists.{Has}
 use Rattle.sqlite_schema.specs.Rules.{equal}
 use Rattle.sqlite_value.proofs.OrderLemmas.{value_cmp_total}
-use Rattle.sql_maps.proofs.Keys.{IsGuarded}
-use Rattle.sql_maps.proofs.Unique.{one_at_key}
-use Rattle.sql_maps.specs.Rows.{AreRowsById, IsApart}
-use Rattle.sql_maps.specs.Schema.{table_of}
+use Rattle.sql_tables.specs.Maps.{IsGuarded}
+use Rattle.sql_tables.proofs.Unique.{one_at_key}
+use Rattle.sql_tables.specs.Rows.{AreRowsById, IsApart}
+use Rattle.sql_tables.specs.Schema.{table_of}
 use Rattle.vault_core.specs.Keys.{Bytes}
 use Rattle.vault_verdict.proofs.InTree.{in_items, in_tree, keys_by_rowid}
 use Rattle.vault_verdict.proofs.Joining.{card_there, card_value, cards_in}
 use Rattle.vault_verdict.proofs.Permuted.{apart_permuted}
 use Rattle.vault_verdict.proofs.Tables.{same_text}
-use Rattle.vault_verdict.specs.Raw.{card_row}
+use Rattle.vault_tables.specs.CardTexts.{card_row}
 use Rattle.vault_rules.specs.Codes.{natural}
 use Rattle.vault_rules.proofs.Options.{mapped_is}
 use Rattle.vault_rules.specs.Lookups.{card_of}
 use Rattle.vault_rules.specs.VaultOf.{AreKeysApart, card_key}
 use Rattle.vault_rules.specs.declared.rows.RawCard.{RawCard}
-use Rattle.vault_schema.specs.Version2.Rows.{card_columns}
-use Rattle.vault_schema.specs.Version2.Tables as v2
+use Rattle.vault_schema.specs.Cards.{card_columns}
+use Rattle.vault_schema.specs.Cards.{cards as cards_table}
 
 same_texts : (m n p q : Bytes) → m ≡ p → n ≡ q
     → (equal Binary (Text m) (Text p) && (equal Binary (Text n) (Text q) && true)) ≡ true
@@ -47,11 +47,11 @@ module _ (db : Database) (items : List RawCard) (same : IsPermutation (db.trees 
 
   -- nor does a number of a merchant
   pub numbers_apart : (s : Schema) → db.schema ≡ s → IsDatabase db
-      → slice_get s.tables 6 ≡ Some (table_of v2.cards)
-      → IsGuarded s.indexes (table_of v2.cards) (2 ∷ 3 ∷ []) → AreKeysApart card_key items
+      → slice_get s.tables 6 ≡ Some (table_of cards_table)
+      → IsGuarded s.indexes (table_of cards_table) (2 ∷ 3 ∷ []) → AreKeysApart card_key items
   numbers_apart s ours sound here guarded =
       keys_by_rowid card_row card_key items up (λ a b h g e.
-      let one = one_at_key s db ours sound v2.cards 6 here (2 ∷ 3 ∷ []) guarded a.id b.id _ _
+      let one = one_at_key s db ours sound cards_table 6 here (2 ∷ 3 ∷ []) guarded a.id b.id _ _
       (in_tree card_row items same a h) (in_tree card_row items same b g)
       (same_texts _ _ _ _ (ap (λ (k : Bytes × Bytes). k.0) e) (ap (λ (k : Bytes × Bytes). k.1) e)) in
       ap (λ n. value_cmp (Int n) (Int b.id)) one ∙ tied_itself value_cmp_total (Int b.id))

@@ -2,7 +2,6 @@
 use Rattle.std.proofs.Common.{◌≡◌, ℤ, pos, List, [], ◌∷◌, map, Option, Some, None, option_map, refl, sym, ap}
 use Rattle.std.proofs.Common.{subst}
 use Rattle.std.specs.List.{cons_option, filter_map}
-use Rattle.std.specs.Prelude.{◌<ℤ◌}
 use Rattle.sqlite.specs.Order.{Row}
 use Rattle.sqlite.specs.Tree.{IsAscending}
 use Rattle.sqlite.specs.declared.types.Value.{Value}
@@ -12,9 +11,10 @@ use Rattle.sqlite_rules.proofs.ProbeLemmas.{has_mapped, mapped_has}
 use Rattle.sqlite_rules.specs.Lists.{Has}
 use Rattle.vault_verdict.proofs.ApartKeys.{has_kept}
 use Rattle.vault_verdict.specs.Made.{as_card}
-use Rattle.sql_stored.specs.Values.{row_text_value}
-use Rattle.vault_verdict.specs.declared.replaced.OldEntry.{OldEntry}
-use Rattle.sql_stored.specs.declared.text.RowText.{RowText}
+use Rattle.sql_tables.specs.Values.{row_text_value}
+use Rattle.vault_tables.specs.declared.entries.old.OldEntry.{OldEntry}
+use Rattle.sql_tables.specs.declared.text.RowText.{RowText}
+use Rattle.std.specs.Prelude.{◌<ℤ◌}
 
 -- the number that a row begins with
 abbrev pub number_at : Row → ℤ

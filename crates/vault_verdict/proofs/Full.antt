@@ -4,15 +4,15 @@ use Rattle.std.proofs.Common.{◌≡◌, ◌<◌, ℕ, true, false, List, [], �
 use Rattle.sqlite.specs.Effect.{Database}
 use Rattle.sqlite.specs.Order.{Row}
 use Rattle.sqlite.specs.Tree.{Trees}
-use Rattle.sql_maps.specs.Rows.{AreRowsOf}
-use Rattle.sql_maps.specs.States.{StandsIn}
-use Rattle.sql_stored.specs.Reading.{AreLonger}
+use Rattle.sql_tables.specs.Rows.{AreRowsOf}
+use Rattle.sql_tables.specs.States.{StandsIn}
+use Rattle.sql_tables.specs.Reading.{AreLonger}
 use Rattle.vault_core.specs.Keys.{Bytes}
 use Rattle.vault_core.specs.declared.right.Right.{Right}
 use Rattle.vault_schema.proofs.ByTable.{first_entries, held, joined_pointing}
 use Rattle.vault_schema.specs.Layers.{Either, is_from}
-use Rattle.vault_schema.specs.Version1.Rows.{entry_row}
-use Rattle.vault_schema.specs.Version2.Rows.{pointing_row}
+use Rattle.vault_schema.specs.Entries.{entry_row}
+use Rattle.vault_schema.specs.Entries.{pointing_row}
 use Rattle.vault_schema.specs.Versions.{Lookups, Rights, Stand, StandJoined, has_cards, schema_of}
 use Rattle.vault_schema.specs.Versions.{uncarded_claims}
 use Rattle.vault_schema.specs.declared.version.Version.{Version}

@@ -7,8 +7,8 @@ use Rattle.sqlite.specs.Tree.{rowid}
 use Rattle.sqlite_rules.specs.Lists.{Has}
 use Rattle.sqlite_rules.proofs.ListLemmas.{all_has}
 use Rattle.sqlite_rules.proofs.ProbeLemmas.{has_mapped, mapped_has}
-use Rattle.sql_maps.proofs.Answers.{has_permuted}
-use Rattle.sql_maps.specs.Rows.{IsApart}
+use Rattle.sql_tables.proofs.Answers.{has_permuted}
+use Rattle.sql_tables.specs.Rows.{IsApart}
 use Rattle.vault_rules.specs.VaultOf.{AreKeysApart}
 
 module _ {R : Type 0} (stands : R → Row) where

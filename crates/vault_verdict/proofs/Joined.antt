@@ -6,10 +6,10 @@ use Rattle.sqlite.specs.Held.{Held, state}
 use Rattle.sqlite.specs.Schema.{Schema}
 use Rattle.sqlite_trees.specs.declared.store.Store.{Ghosts}
 use Rattle.sqlite.specs.State.{State, HasCleanDisk}
-use Rattle.sql_maps.proofs.Calls.{reads_then}
-use Rattle.sql_maps.specs.Schema.{grown}
-use Rattle.sql_maps.specs.States.{Reads}
-use Rattle.vault_schema.specs.Version1.Tables.{v1}
+use Rattle.sql_tables.proofs.Calls.{reads_then}
+use Rattle.sql_tables.specs.Schema.{grown}
+use Rattle.sql_tables.specs.States.{Reads}
+use Rattle.vault_schema.specs.Schemas.{v1}
 use Rattle.vault_schema.specs.Versions.{schema_of}
 use Rattle.vault_schema.specs.declared.version.Version.{Version}
 use Rattle.vault_rules.specs.Seen.{HasEntries, HasRecords}
@@ -17,13 +17,13 @@ use Rattle.vault_rules.specs.declared.entries.Entries.{Entries}
 use Rattle.vault_rules.specs.declared.records.Records.{Records}
 use Rattle.vault_rules.specs.declared.rows.RawEntry.{RawEntry}
 use Rattle.vault_rules.specs.declared.rows.RawRecord.{RawRecord}
-use Rattle.vault_verdict.specs.Raw.{record_values}
-use Rattle.sql_stored.specs.Reading.{AreTable, IsAny}
+use Rattle.vault_tables.specs.RecordTexts.{record_values}
+use Rattle.sql_tables.specs.Reading.{AreTable, IsAny}
 use Rattle.vault_verdict.specs.Reading.{AreEntriesIn, AreTaken}
-use Rattle.vault_verdict.specs.Taken.{EntriesTaken, RecordsTaken}
-use Rattle.sql_stored.specs.declared.fault.StoreFault.{StoreFault}
-use Rattle.sql_stored.specs.declared.fault.StoreFault.TheVariants.{Memory, Store}
-use Rattle.vault_verdict.specs.declared.replaced.OldEntry.{OldEntry}
+use Rattle.vault_tables.specs.Taken.{EntriesTaken, RecordsTaken}
+use Rattle.sql_tables.specs.declared.fault.StoreFault.{StoreFault}
+use Rattle.sql_tables.specs.declared.fault.StoreFault.TheVariants.{Memory, Store}
+use Rattle.vault_tables.specs.declared.entries.old.OldEntry.{OldEntry}
 use Rattle.vault_schema.proofs.TablesBehind.{behind, indexes_behind, schema_is}
 
 none_on : {R E : Type 0} (r : Result R E) (A : Type 0) → IsErr r → OnOk r A

@@ -22,10 +22,10 @@ use Rattle.vault_rules.specs.VaultOf.{vault_of}
 use Rattle.vault_rules.specs.declared.rows.RawCard.{RawCard}
 use Rattle.vault_rules.specs.declared.rows.RawEntry.{RawEntry}
 use Rattle.vault_rules.specs.AllRows.{Rows}
-use Rattle.vault_schema.specs.Version2.Joined.{AreJoined, AreMany, joined, nothing_owed, number_of}
-use Rattle.vault_schema.specs.Version2.Joined as schema
-use Rattle.vault_schema.specs.declared.v2.Card.{Card}
-use Rattle.vault_schema.specs.declared.v2.Pointing.{Pointing}
+use Rattle.vault_schema.specs.Joined.{AreJoined, AreMany, joined, nothing_owed, number_of}
+use Rattle.vault_schema.specs.Joined as schema
+use Rattle.vault_schema.specs.declared.rows.Card.{Card}
+use Rattle.vault_schema.specs.declared.rows.Pointing.{Pointing}
 
 -- what rows say of a card, and of an entry that points at one
 abbrev pub card_value : RawCard → Card

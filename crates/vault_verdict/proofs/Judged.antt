@@ -4,11 +4,10 @@ use Rattle.std.proofs.Common.{false, cond, Some, None, option_map, Ok, Err, Resu
 use Rattle.std.proofs.Common.{inr, map, refl, sym, ap, subst, ◌∙◌, true≢false}
 use Rattle.std.specs.List.Sorted.{IsPermutation, IsSortedByKey}
 use Rattle.std.specs.Ordering.{int_cmp, int_eq}
-use Rattle.std.specs.Prelude.{◌<ℤ◌}
 use Rattle.sqlite.specs.Effect.{Database, IsDatabase}
 use Rattle.sqlite.specs.State.{State, IsUnchanged}
 use Rattle.sqlite.specs.Tree.{IsAscending}
-use Rattle.sql_maps.specs.Rows.{IsApart}
+use Rattle.sql_tables.specs.Rows.{IsApart}
 use Rattle.vault_verdict.proofs.Full.{entries_full, full_of, merchants_full, rights_full}
 use Rattle.vault_verdict.specs.ReadAs.{AreMerchantsFull, AreRightsFull}
 use Rattle.vault_verdict.proofs.InVersion.{has_version_in}
@@ -23,19 +22,22 @@ use Rattle.vault_verdict.specs.Apart.{AreApart, AreByRowid, AreEntriesApart, Are
 use Rattle.vault_verdict.specs.Made.{as_card, as_entry}
 use Rattle.vault_verdict.specs.Opened.{AreRaws, AreVersions, IsBrokenIn, IsFit, IsLeastBroken, IsNoRefusal}
 use Rattle.vault_verdict.specs.Opened.{AreOldersIn, IsOtherVersion, IsSoundIn, IsVersionIn, StandsSoundIn}
-use Rattle.vault_tables.specs.Merchants.{merchant_values}
-use Rattle.vault_tables.specs.Rights.{right_values}
-use Rattle.vault_verdict.specs.Raw.{card_row, card_values, count_values, entry_values, old_entry_values}
-use Rattle.vault_verdict.specs.Raw.{record_values}
+use Rattle.vault_tables.specs.MerchantTexts.{merchant_values}
+use Rattle.vault_tables.specs.RightTexts.{right_values}
+use Rattle.vault_tables.specs.CardTexts.{card_row, card_values}
+use Rattle.vault_tables.specs.CountTexts.{count_values}
+use Rattle.vault_tables.specs.EntryTexts.{entry_values}
+use Rattle.vault_tables.specs.EntryTexts.{old_entry_values}
+use Rattle.vault_tables.specs.RecordTexts.{record_values}
 use Rattle.vault_verdict.specs.ReadAs.{AreCards, AreOlders}
 use Rattle.vault_verdict.specs.ReadAs.{AreEntries, AreFull, IsFullIn, merchants_in, replaced_in}
 use Rattle.vault_verdict.specs.ReadAs.{rights_in}
 use Rattle.vault_verdict.specs.Judging.{AreOnward}
 use Rattle.vault_verdict.specs.Reading.{AreCardsIn, AreEntriesIn, AreFirst}
 use Rattle.vault_verdict.specs.Reading.{AreOldCards, ArePointingFull, IsOurs}
-use Rattle.sql_stored.specs.Reading.{AreLonger, AreTable, IsAny}
+use Rattle.sql_tables.specs.Reading.{AreLonger, AreTable, IsAny}
 use Rattle.vault_verdict.specs.declared.first.First.{First}
-use Rattle.vault_verdict.specs.declared.replaced.OldEntry.{OldEntry}
+use Rattle.vault_tables.specs.declared.entries.old.OldEntry.{OldEntry}
 use Rattle.vault_schema.specs.Versions.{has_cards, number_of, schema_of}
 use Rattle.vault_schema.specs.Layers.{Either}
 use Rattle.vault_schema.specs.declared.version.Version.{Version}
@@ -58,6 +60,7 @@ use Rattle.vault_rules.specs.declared.rows.RawCard.{RawCard}
 use Rattle.vault_rules.specs.declared.rows.RawEntry.{RawEntry}
 use Rattle.vault_rules.specs.declared.rows.RawVersion.{RawVersion}
 use Rattle.vault_rules.specs.AllRows.{Rows}
+use Rattle.std.specs.Prelude.{◌<ℤ◌}
 
 -- the one row of `vault` says this version
 pub version_is : (n : ℤ) (v : RawVersion) → v.id ≡ pos 1 → other_than n (v ∷ []) ≡ None → v.version ≡ n

@@ -1,13 +1,13 @@
 -- Where no rowid comes twice in the rows of a version, no key does.
 use Rattle.std.proofs.Common.{◌≡◌, true, false, List, map, refl, ◌∙◌}
 use Rattle.sqlite.specs.Effect.{Database, IsDatabase}
-use Rattle.sql_maps.specs.Rows.{IsApart}
+use Rattle.sql_tables.specs.Rows.{IsApart}
 use Rattle.vault_schema.proofs.TablesBehind.{entries_free}
 use Rattle.vault_schema.proofs.TablesBehind.{behind, behind_two, indexes_behind}
 use Rattle.vault_schema.proofs.TablesBehind.{indexes_behind_two, schema_is}
 use Rattle.vault_schema.proofs.TablesBehind.{schema_first, schema_second}
 use Rattle.vault_schema.specs.Layers.{Either}
-use Rattle.vault_schema.specs.Version1.Tables.{v1}
+use Rattle.vault_schema.specs.Schemas.{v1}
 use Rattle.vault_schema.specs.Versions.{has_cards, schema_of}
 use Rattle.vault_schema.specs.declared.version.Version.{Version}
 use Rattle.vault_verdict.proofs.Merchants.{merchants_apart}
@@ -21,22 +21,26 @@ use Rattle.vault_verdict.proofs.Table.{keys_apart}
 use Rattle.vault_verdict.proofs.Tables as tables
 use Rattle.vault_verdict.specs.Apart.{AreApart}
 use Rattle.vault_verdict.specs.Opened.{AreRaws}
-use Rattle.vault_tables.specs.Merchants.{merchant_values}
-use Rattle.vault_tables.specs.Rights.{right_values}
-use Rattle.vault_verdict.specs.Raw as raw
+use Rattle.vault_tables.specs.MerchantTexts.{merchant_values}
+use Rattle.vault_tables.specs.RightTexts.{right_values}
+use Rattle.vault_tables.specs.CardTexts.{card_row}
+use Rattle.vault_tables.specs.CountTexts.{count_values}
+use Rattle.vault_tables.specs.EntryTexts.{entry_values}
+use Rattle.vault_tables.specs.EntryTexts.{old_entry_values}
+use Rattle.vault_tables.specs.RecordTexts.{record_values}
 use Rattle.vault_verdict.specs.ReadAs.{AreCards, AreOlders}
-use Rattle.vault_verdict.specs.declared.replaced.OldEntry.{OldEntry}
+use Rattle.vault_tables.specs.declared.entries.old.OldEntry.{OldEntry}
 use Rattle.vault_rules.specs.VaultOf.{AreKeysApart, HasKeysApart, entry_key}
 use Rattle.vault_rules.specs.AllRows.{Rows}
 
 -- the rows of entries and cards, of which no rowid comes twice
 abbrev pub AreCardsApart : Rows → Type 0
 AreCardsApart rows =
-    IsApart (map raw.card_row rows.cards) × IsApart (map raw.entry_values rows.entries)
+    IsApart (map card_row rows.cards) × IsApart (map entry_values rows.entries)
 
 abbrev pub AreEntriesApart : Version → List OldEntry → Rows → Type 0
 AreEntriesApart v olders rows =
-    Either (has_cards v) (AreCardsApart rows) (IsApart (map raw.old_entry_values olders))
+    Either (has_cards v) (AreCardsApart rows) (IsApart (map old_entry_values olders))
 
 abbrev AreKeyed : Rows → Type 0
 AreKeyed rows =
@@ -44,7 +48,7 @@ AreKeyed rows =
 
 module _ (db : Database) (sound : IsDatabase db) (olders : List OldEntry) (rows : Rows) where
   first_apart : db.schema ≡ v1 → AreOlders db.trees olders rows
-      → IsApart (map raw.old_entry_values olders) → AreKeyed rows
+      → IsApart (map old_entry_values olders) → AreKeyed rows
   first_apart ours are up = (
     old.ids_apart db.trees olders rows are up,
     old.entries_apart db.trees olders rows are up
@@ -52,7 +56,7 @@ module _ (db : Database) (sound : IsDatabase db) (olders : List OldEntry) (rows 
   )
 
   later_apart : AreCards db.trees rows → AreKeysApart entry_key rows.entries
-      → IsApart (map raw.card_row rows.cards) → AreKeyed rows
+      → IsApart (map card_row rows.cards) → AreKeyed rows
   later_apart are entries up = (ids_apart db _ are.cards up, entries)
 
 entries_keyed : (v : Version) (db : Database) → db.schema ≡ schema_of v → IsDatabase db
@@ -60,7 +64,7 @@ entries_keyed : (v : Version) (db : Database) → db.schema ≡ schema_of v → 
     → AreKeyed rows
 entries_keyed v db ours sound olders rows raws up =
     elim (has_cards v) as (λ b. has_cards v ≡ b → Either b (AreCards db.trees rows) (AreOlders db.trees olders
-    rows) → Either b (AreCardsApart rows) (IsApart (map raw.old_entry_values olders)) → AreKeyed rows) [
+    rows) → Either b (AreCardsApart rows) (IsApart (map old_entry_values olders)) → AreKeyed rows) [
       | true ↦ λ has are apart.
           later_apart db sound olders rows are
           (keys_apart (tables.entries_in (behind_two v) (indexes_behind_two v) (entries_free v)) db
@@ -71,8 +75,8 @@ entries_keyed v db ours sound olders rows raws up =
 pub keys_in : (v : Version) (db : Database) → db.schema ≡ schema_of v → IsDatabase db
     → (olders : List OldEntry) (rows : Rows) → AreRaws v db.trees olders rows
     → IsApart (map merchant_values rows.merchants)
-    → IsApart (map raw.count_values rows.counts) → AreEntriesApart v olders rows
-    → IsApart (map raw.record_values rows.records) → IsApart (map right_values rows.rights)
+    → IsApart (map count_values rows.counts) → AreEntriesApart v olders rows
+    → IsApart (map record_values rows.records) → IsApart (map right_values rows.rights)
     → HasKeysApart rows
 keys_in v db ours sound olders rows raws merchants counts entries records rights =
     let keyed = entries_keyed v db ours sound olders rows raws entries in
@@ -92,7 +96,7 @@ entries_of : (v : Version) (db : Database) (olders : List OldEntry) (rows : Rows
     → AreRaws v db.trees olders rows → AreApart rows → AreEntriesApart v olders rows
 entries_of v db olders rows raws up =
     elim (has_cards v) as (λ b. Either b (AreCards db.trees rows) (AreOlders db.trees olders rows)
-    → Either b (AreCardsApart rows) (IsApart (map raw.old_entry_values olders))) [
+    → Either b (AreCardsApart rows) (IsApart (map old_entry_values olders))) [
       | true ↦ λ are. (up.cards, up.entries)
       | false ↦ λ are. olders_apart db.trees olders rows are up.entries
     ] raws.entries

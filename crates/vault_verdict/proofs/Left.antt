@@ -5,8 +5,8 @@ use Rattle.std.proofs.Common.{arith, cond, refl}
 use Rattle.std.proofs.lemmas.Bool.{and_parts}
 use Rattle.sqlite.specs.Order.{Row}
 use Rattle.sqlite.specs.Tree.{Trees}
-use Rattle.sql_maps.specs.States.{Claim}
-use Rattle.sql_stored.specs.Reading.{any_left}
+use Rattle.sql_tables.specs.States.{Claim}
+use Rattle.sql_tables.specs.Reading.{any_left}
 use Rattle.vault_schema.proofs.Layers.{HoldAt, from_both}
 use Rattle.vault_schema.specs.Layers.{Layer, claim_or_empty, is_from, is_past}
 use Rattle.vault_schema.specs.declared.version.Version.{Version}

@@ -10,9 +10,9 @@ use Rattle.sqlite.specs.Tree.{Trees}
 use Rattle.sqlite.specs.declared.types.Value.TheVariants.{Int, Text}
 use Rattle.sqlite_rules.specs.Lists.{Has}
 use Rattle.sqlite_schema.specs.declared.schema.Index.{Index}
-use Rattle.sql_maps.proofs.Grown.{keyed_in_grown}
-use Rattle.sql_maps.specs.Rows.{IsApart}
-use Rattle.sql_maps.specs.Schema.{columns_to}
+use Rattle.sql_tables.proofs.Grown.{keyed_in_grown}
+use Rattle.sql_tables.specs.Rows.{IsApart}
+use Rattle.sql_tables.specs.Schema.{columns_to}
 use Rattle.vault_core.proofs.Finds.{some_same}
 use Rattle.vault_core.specs.Keys.{Bytes}
 use Rattle.vault_core.specs.Lives.{lives_in}
@@ -30,24 +30,26 @@ use Rattle.vault_rules.specs.Rules.{keeps}
 use Rattle.vault_rules.specs.Showing.{Shows}
 use Rattle.vault_rules.specs.VaultOf.{AreKeysApart, HasKeysApart, vault_of}
 use Rattle.vault_rules.specs.declared.rows.RawMerchant.{RawMerchant}
-use Rattle.vault_schema.proofs.TablesBehind.{behind, behind_from, behind_three}
-use Rattle.vault_schema.proofs.TablesBehind.{indexes_behind, indexes_behind_from}
-use Rattle.vault_schema.proofs.TablesBehind.{indexes_behind_three, schema_is, schema_third}
+use Rattle.vault_schema.proofs.TablesBehind.{behind, behind_from, indexes_behind, indexes_behind_from}
+use Rattle.vault_schema.proofs.TablesBehind.{schema_from, schema_is}
 use Rattle.vault_schema.proofs.ByTable.{AreHeld}
 use Rattle.vault_schema.proofs.Layers.{free_in}
 use Rattle.vault_schema.proofs.Newest as newest_tables
-use Rattle.vault_schema.proofs.Version1.Codes as first
-use Rattle.vault_schema.proofs.Version3 as third
+use Rattle.vault_schema.proofs.MerchantCodes.{old_merchants_in_first}
+use Rattle.vault_schema.proofs.MerchantCodes.{merchant_coding, merchants_in_third}
 use Rattle.vault_schema.specs.Stands.{lookups_of}
-use Rattle.vault_schema.specs.Version1.Rows as one
-use Rattle.vault_schema.specs.Version1.Tables as v1
-use Rattle.vault_schema.specs.Version3 as three
-use Rattle.vault_schema.specs.declared.v1.Lives as one_lives
+use Rattle.vault_schema.specs.Merchants.{old_lives_columns, old_merchant_row}
+use Rattle.vault_schema.specs.Merchants.{merchant_key}
+use Rattle.vault_schema.specs.Merchants.{old_merchants}
+use Rattle.vault_schema.specs.Merchants.{lives_columns, merchants as merchants_table}
+use Rattle.vault_schema.specs.Merchants.{older_lives}
+use Rattle.vault_schema.specs.declared.rows.OldLives as one_lives
 use Rattle.vault_schema.specs.Versions.{AreSix, HasDefaults, Lookups, Merchants, OldMerchants, fourth_layers}
-use Rattle.vault_schema.specs.Versions.{layers, merchant_row, newest, schema_of, second_layers}
+use Rattle.vault_schema.specs.Versions.{layers, newest, schema_of, second_layers}
+use Rattle.vault_schema.specs.Merchants.{merchant_row}
 use Rattle.vault_schema.specs.declared.version.Version.{Version}
 use Rattle.vault_schema.specs.declared.version.Version.TheVariants.{Three}
-use Rattle.vault_tables.specs.Merchants.{merchant_values, with_six}
+use Rattle.vault_tables.specs.MerchantTexts.{merchant_values, with_first_lead}
 use Rattle.vault_verdict.proofs.Left.{AreGone}
 use Rattle.vault_verdict.proofs.ReplacedTable.{AreSaid, Replaced, by_table, narrow_up, said_of_read}
 use Rattle.vault_verdict.proofs.ReplacedTable.{said_where_read}
@@ -65,13 +67,13 @@ old_merchant_values m =
 
 module _ (others : List SqlTable) (indexes : List Index) where
   -- without a lead
-  abbrev old_merchant_table : (free : IsFree others indexes v1.merchants 1)
-      → Table (keyed_in_grown first.merchant_table others indexes free) RawMerchant Bytes
+  abbrev old_merchant_table : (free : IsFree others indexes old_merchants 1)
+      → Table (keyed_in_grown old_merchants_in_first others indexes free) RawMerchant Bytes
   old_merchant_table free = listed_by by_name old_merchant_values (λ m. string_bytes m.name) (λ m. refl)
 
   -- with a lead
-  abbrev led_merchant_table : (free : IsFree others indexes three.merchants 1)
-      → Table (keyed_in_grown third.merchant_table others indexes free) RawMerchant Bytes
+  abbrev led_merchant_table : (free : IsFree others indexes merchants_table 1)
+      → Table (keyed_in_grown merchants_in_third others indexes free) RawMerchant Bytes
   led_merchant_table free = listed_by by_name merchant_values (λ m. string_bytes m.name) (λ m. refl)
 
 -- that of the newest schema
@@ -80,17 +82,17 @@ newest_merchant_table = led_merchant_table (behind_from newest Three) (indexes_b
 
 -- no later index guards their keys
 module _ (v : Version) where
-  old_merchants_free : IsFree (behind v) (indexes_behind v) v1.merchants 1
-  old_merchants_free = free_in v v1.merchants (columns_to 1) second_layers refl
+  old_merchants_free : IsFree (behind v) (indexes_behind v) old_merchants 1
+  old_merchants_free = free_in v old_merchants (columns_to 1) second_layers refl
 
-  led_merchants_free : IsFree (behind_three v) (indexes_behind_three v) three.merchants 1
-  led_merchants_free = free_in v three.merchants (columns_to 1) fourth_layers refl
+  led_merchants_free : IsFree (behind_from v Three) (indexes_behind_from v Three) merchants_table 1
+  led_merchants_free = free_in v merchants_table (columns_to 1) fourth_layers refl
 
 -- the older table, and the one that came for it: what is read of the older one has a lead of six digits
 abbrev pub replaced_merchants : Replaced RawMerchant
 replaced_merchants = record {
   since = Three;
-  older = 1;
+  older = λ db. db 1;
   newer = 17;
   wide = merchant_values;
   narrow = old_merchant_values;
@@ -108,8 +110,8 @@ merchants_apart v db ours sound items are up =
     by_table replaced_merchants v db.trees items are
     (λ b. AreKeysApart (λ (m : RawMerchant). string_bytes m.name) items)
     (λ has these. keys_apart
-    (led_merchant_table (behind_three v) (indexes_behind_three v) (led_merchants_free v)) db
-    (ours ∙ schema_third v has) sound items these up)
+    (led_merchant_table (behind_from v Three) (indexes_behind_from v Three) (led_merchants_free v)) db
+    (ours ∙ schema_from v Three refl has) sound items these up)
     (λ these six. keys_apart (old_merchant_table (behind v) (indexes_behind v) (old_merchants_free v)) db
     (ours ∙ schema_is v) sound items these (narrow_up replaced_merchants v db.trees items are up))
 
@@ -118,10 +120,10 @@ merchants_apart v db ours sound items are up =
 -- the older table with the lead of six digits beside each row
 with_leads : (held : Bytes → _) (rows : List Row)
     → ((m : Bytes) (x : Lives) → held m ≡ Some x → Int (pos (lead_digits x.lead)) ≡ Int (pos 6))
-    → OldMerchants held rows → Merchants held (map with_six rows)
+    → OldMerchants held rows → Merchants held (map with_first_lead rows)
 with_leads held rows six are =
-    widened (Int (pos 6)) one.merchant_key one.lives_columns three.lives_columns third.merchant_coding
-    three.older
+    widened (Int (pos 6)) merchant_key old_lives_columns lives_columns merchant_coding
+    older_lives
     (λ m x at. λ i. Int (pos x.single_life)
     ∷ Int (pos x.multi_life) ∷ Int (pos x.moment) ∷ six m x at i ∷ []) are
 
@@ -198,11 +200,11 @@ module _ (rows : Rows) (apart : HasKeysApart rows) (keep : (r : ℕ) → keeps r
 
   -- so it is without the lead
   old_listed : (m : RawMerchant) → Has rows.merchants m
-      → (name : Bytes) × (x : one_lives.Lives) × (drop 1 (old_merchant_values m) ≡ one.merchant_row name x)
-      × (option_map three.older (h.merchants name) ≡ Some x)
+      → (name : Bytes) × (x : one_lives.OldLives) × (drop 1 (old_merchant_values m) ≡ old_merchant_row name x)
+      × (option_map older_lives (h.merchants name) ≡ Some x)
   old_listed m there =
       let it = listed m there in
-      (it.0, three.older it.1, grind (arith, it.2), ap (option_map three.older) it.3)
+      (it.0, older_lives it.1, grind (arith, it.2), ap (option_map older_lives) it.3)
 
   module _ (db : Database) (sound : IsDatabase db) (v : Version) (ours : db.schema ≡ schema_of v) where
     -- what is said of the table of schema 1, of that of schema 3, and of each lead before schema 3
@@ -212,9 +214,9 @@ module _ (rows : Rows) (apart : HasKeysApart rows) (keep : (r : ℕ) → keeps r
     merchants_said are up gone =
         said_where_read replaced_merchants v db.trees rows.merchants are up _ _ _ gone.1.0
         (λ has these up. stand_for
-        (led_merchant_table (behind_three v) (indexes_behind_three v) (led_merchants_free v)) db
-        (ours ∙ schema_third v has) sound _ these up listed row_there)
+        (led_merchant_table (behind_from v Three) (indexes_behind_from v Three) (led_merchants_free v)) db
+        (ours ∙ schema_from v Three refl has) sound _ these up listed row_there)
         (λ these up. stand_for (old_merchant_table (behind v) (indexes_behind v) (old_merchants_free v)) db
         (ours ∙ schema_is v) sound _ these up old_listed
         (λ name x is.
-        let lives = mapped_is three.older (h.merchants name) x is in row_there name lives.0 lives.1)) are_six
+        let lives = mapped_is older_lives (h.merchants name) x is in row_there name lives.0 lives.1)) are_six

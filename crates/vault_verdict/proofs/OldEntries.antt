@@ -7,7 +7,7 @@ use Rattle.sqlite.specs.Effect.{Database, IsDatabase}
 use Rattle.sqlite.specs.Tree.{Trees}
 use Rattle.sqlite.specs.declared.types.Value.TheVariants.{Int, Text}
 use Rattle.sqlite_rules.specs.Lists.{Has}
-use Rattle.sql_maps.specs.Rows.{AreRowsOf, IsApart}
+use Rattle.sql_tables.specs.Rows.{AreRowsOf, IsApart}
 use Rattle.vault_core.specs.Keys.{Bytes}
 use Rattle.vault_core.specs.Numbers.{use_number}
 use Rattle.vault_core.specs.Vault.{Vault, entry_at}
@@ -20,17 +20,19 @@ use Rattle.vault_verdict.proofs.Permuted.{apart_as}
 use Rattle.vault_verdict.proofs.Table.{keys_apart, stand_for}
 use Rattle.vault_verdict.proofs.Tables.{old_entries}
 use Rattle.vault_verdict.specs.Made.{as_entry}
-use Rattle.sql_stored.specs.Values.{int_value, maybe_text_value}
-use Rattle.vault_verdict.specs.Raw.{entry_values, old_entry_values}
+use Rattle.sql_tables.specs.Values.{int_value, maybe_text_value}
+use Rattle.vault_tables.specs.EntryTexts.{entry_values}
+use Rattle.vault_tables.specs.EntryTexts.{old_entry_values}
 use Rattle.vault_verdict.specs.ReadAs.{AreOlders}
-use Rattle.sql_stored.specs.Texts.{text_bytes}
-use Rattle.vault_verdict.specs.declared.replaced.OldEntry.{OldEntry}
-use Rattle.sql_stored.specs.declared.text.RowText.{RowText}
+use Rattle.sql_tables.specs.KeptTexts.{text_bytes}
+use Rattle.vault_tables.specs.declared.entries.old.OldEntry.{OldEntry}
+use Rattle.sql_tables.specs.declared.text.RowText.{RowText}
 use Rattle.vault_rules.specs.Showing.{Shows, ShowsEntry}
 use Rattle.vault_rules.specs.VaultOf.{AreKeysApart, vault_of}
 use Rattle.vault_rules.specs.AllRows.{Rows}
-use Rattle.vault_schema.specs.Version1.Rows.{entry_row, number_or_null, text_or_null}
-use Rattle.vault_schema.specs.Version1.Tables.{v1}
+use Rattle.vault_schema.specs.Entries.{entry_row}
+use Rattle.vault_schema.specs.Values.{number_or_null, text_or_null}
+use Rattle.vault_schema.specs.Schemas.{v1}
 
 text_as : (o : Option RowText)
     → maybe_text_value o ≡ text_or_null (option_map text_bytes o)

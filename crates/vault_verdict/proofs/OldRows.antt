@@ -11,16 +11,18 @@ use Rattle.sqlite.specs.declared.types.Value.TheVariants.{Int, Text}
 use Rattle.sqlite_rules.proofs.ProbeLemmas.{has_mapped, mapped_has}
 use Rattle.sqlite_rules.specs.Lists.{Has}
 use Rattle.sqlite_value.proofs.OrderLemmas.{value_cmp_total}
-use Rattle.sql_maps.specs.Rows.{IsApart}
+use Rattle.sql_tables.specs.Rows.{IsApart}
 use Rattle.vault_core.specs.Keys.{Bytes}
 use Rattle.vault_verdict.proofs.InTree.{keys_by_rowid}
 use Rattle.vault_verdict.proofs.Joining.{card_there}
 use Rattle.vault_verdict.proofs.Pointers.{one_number, pointing_are}
-use Rattle.sql_stored.specs.Values.{int_value}
-use Rattle.vault_verdict.specs.Raw.{card_values, entry_values, old_entry_values}
-use Rattle.sql_stored.specs.Texts.{text_bytes}
-use Rattle.vault_verdict.specs.declared.replaced.OldEntry.{OldEntry}
-use Rattle.sql_stored.specs.declared.text.RowText.{RowText}
+use Rattle.sql_tables.specs.Values.{int_value}
+use Rattle.vault_tables.specs.CardTexts.{card_values}
+use Rattle.vault_tables.specs.EntryTexts.{entry_values}
+use Rattle.vault_tables.specs.EntryTexts.{old_entry_values}
+use Rattle.sql_tables.specs.KeptTexts.{text_bytes}
+use Rattle.vault_tables.specs.declared.entries.old.OldEntry.{OldEntry}
+use Rattle.sql_tables.specs.declared.text.RowText.{RowText}
 use Rattle.vault_rules.proofs.Keyed.{find-some, keys_once}
 use Rattle.vault_rules.proofs.Numbers.{int_same}
 use Rattle.vault_rules.specs.Lookups.{card_of, number_of, used_by}
@@ -29,7 +31,7 @@ use Rattle.vault_rules.specs.VaultOf.{AreKeysApart, entry_key}
 use Rattle.vault_rules.specs.declared.rows.RawCard.{RawCard}
 use Rattle.vault_rules.specs.declared.rows.RawEntry.{RawEntry}
 use Rattle.vault_rules.specs.AllRows.{Rows}
-use Rattle.vault_schema.specs.Version2.Joined.{AreMany}
+use Rattle.vault_schema.specs.Joined.{AreMany}
 use Rattle.vault_verdict.proofs.ApartKeys.{apart_by, has_kept, kept_apart, kept_has, same_apart}
 use Rattle.vault_verdict.specs.Made.{as_card, as_entry, own_card}
 use Rattle.vault_verdict.specs.ReadAs.{AreOlders}

@@ -8,7 +8,7 @@ use Rattle.vault_verdict.specs.Opened.{IsSoundOf, Opens}
 use Rattle.vault_verdict.specs.Reading.{IsOurs}
 use Rattle.vault_verdict.specs.declared.sizes.Sizes.{Sizes}
 use Rattle.vault_schema.specs.Holds.{Holds}
-use Rattle.sql_maps.specs.Schema.{no_schema}
+use Rattle.sql_tables.specs.Schema.{no_schema}
 use Rattle.vault_schema.specs.Schema.{newest_schema}
 use Rattle.vault_schema.specs.Stands.{Stands}
 

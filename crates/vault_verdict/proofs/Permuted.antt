@@ -6,8 +6,8 @@ use Rattle.std.specs.List.Sorted.{IsPermutation}
 use Rattle.sqlite.specs.Order.{Row, value_cmp}
 use Rattle.sqlite.specs.Tree.{rowid}
 use Rattle.sqlite_value.proofs.OrderLemmas.{value_cmp_total}
-use Rattle.sql_maps.proofs.RisingLists.{untied_permuted}
-use Rattle.sql_maps.specs.Rows.{IsApart}
+use Rattle.sql_tables.proofs.RisingLists.{untied_permuted}
+use Rattle.sql_tables.specs.Rows.{IsApart}
 
 -- rows of the same rowids are apart where the others are
 pub apart_as : {R : Type 0} (f g : R → Row) → ((x : R) → rowid (f x) ≡ rowid (g x)) → (xs : List R)

@@ -8,7 +8,7 @@ use Rattle.vault_rules.proofs.Pointing.{pointing_many}
 use Rattle.vault_rules.specs.Lookups.{used_by}
 use Rattle.vault_rules.specs.VaultOf.{AreKeysApart, entry_key}
 use Rattle.vault_rules.specs.declared.rows.RawEntry.{RawEntry}
-use Rattle.vault_schema.specs.Version2.Joined.{AreApart, AreMany}
+use Rattle.vault_schema.specs.Joined.{AreApart, AreMany}
 
 -- keys that are apart, as a list in which none comes twice
 none_twice : {K : Type 0} (keys : List K) → AreKeysApart (λ (k : K). k) keys → AreApart keys

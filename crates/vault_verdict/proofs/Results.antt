@@ -1,15 +1,15 @@
 -- What holds of a result, from what holds of it.
 use Rattle.std.proofs.Common.{◌≡◌, ◌≢◌, ◌∙◌, refl, subst, sym, ℕ, ℤ, Ok, Err, Result, IfOk, IfErr, IsErrAnd}
-use Rattle.std.proofs.Common.{◌+◌, ◌-◌, ◌<◌, ◌^◌, arith, OnOk}
+use Rattle.std.proofs.Common.{OnOk, ◌+◌, ◌-◌, ◌<◌, ◌^◌, arith}
 use Rattle.sqlite.specs.Schema.{Schema}
 use Rattle.sqlite.specs.State.{State}
-use Rattle.sql_maps.specs.States.{Reads}
+use Rattle.sql_tables.specs.States.{Reads}
+use Rattle.sql_tables.specs.declared.fault.StoreFault.{StoreFault}
+use Rattle.sql_tables.specs.declared.fault.StoreFault.TheVariants as read
 use Rattle.vault_verdict.specs.Faults.{IsJudged, failure}
 use Rattle.vault_verdict.specs.Reading.{IsQuietWhere}
 use Rattle.vault_verdict.specs.declared.fault.OpenFault.{OpenFault}
 use Rattle.vault_verdict.specs.declared.fault.OpenFault.TheVariants.{WrongSchema, Damaged, Memory, Store}
-use Rattle.sql_stored.specs.declared.fault.StoreFault.{StoreFault}
-use Rattle.sql_stored.specs.declared.fault.StoreFault.TheVariants as read
 
 pub if_ok : {A E : Type 0} {P Q : A → Type 0} (r : Result A E) → ((a : A) → P a → Q a) → IfOk r P → IfOk r Q
 if_ok (Ok a) f h = f a h
@@ -64,12 +64,6 @@ pub unread : (fault : StoreFault) → failure fault ≡ Store → fault ≡ read
 unread read.Memory e = absurd cc
 unread read.Store e = refl
 
--- one more leaves room for one less
-pub less_on : {A E : Type 0} (r : Result A E) (old new : ℕ) → OnOk r (new ≡ old + 1) → OnOk r (new < 2 ^ 64)
-    → OnOk r (2 ^ 64 - new < 2 ^ 64 - old)
-less_on (Ok a) old new more few = omega (arith, more, few)
-less_on (Err e) old new more few = tt
-
 pub if_so : {A E P Q : Type 0} (r : Result A E) → (P → Q) → OnOk r P → OnOk r Q
 if_so (Ok a) f h = f h
 if_so (Err e) f h = h
@@ -90,12 +84,6 @@ pub passed_on : {A P : Type 0} (r : Result A OpenFault) (fault : StoreFault)
     → (fault ≡ read.Store → P) → IfErr r (λ e. e ≡ Store → P)
 passed_on (Ok a) fault same none = tt
 passed_on (Err e) fault same none = λ store. none (unread fault (sym same ∙ store))
-
--- a fault that `?` passes on says the same of it
-pub passed : {A P : Type 0} (r : Result A StoreFault) (fault : StoreFault) → IsErrAnd r (λ e. e ≡ fault)
-    → (fault ≡ read.Store → P) → IfErr r (λ e. e ≡ read.Store → P)
-passed (Ok a) fault same none = tt
-passed (Err e) fault same none = λ store. none (sym same ∙ store)
 
 -- a fault that `?` passes on says the same
 pub passed_as : {A E : Type 0} (P : E → Type 0) (r : Result A E) (fault : E) → IsErrAnd r (λ e. e ≡ fault)

@@ -10,10 +10,10 @@ use Rattle.sqlite.specs.Tree.{Trees}
 use Rattle.sqlite.specs.declared.types.Value.TheVariants.{Int, Null, Text}
 use Rattle.sqlite_rules.specs.Lists.{Has}
 use Rattle.sqlite_schema.specs.declared.schema.Index.{Index}
-use Rattle.sql_maps.proofs.Grown.{keyed_in_grown}
-use Rattle.sql_maps.specs.Rows.{IsApart}
-use Rattle.sql_maps.specs.Schema.{columns_to}
-use Rattle.sql_stored.specs.Values.{int_value}
+use Rattle.sql_tables.proofs.Grown.{keyed_in_grown}
+use Rattle.sql_tables.specs.Rows.{IsApart}
+use Rattle.sql_tables.specs.Schema.{columns_to}
+use Rattle.sql_tables.specs.Values.{int_value}
 use Rattle.vault_core.specs.Keys.{Bytes}
 use Rattle.vault_core.specs.Vault.{Vault}
 use Rattle.vault_core.specs.declared.right.Right.{Right}
@@ -27,23 +27,25 @@ use Rattle.vault_rules.specs.Rules.{keeps}
 use Rattle.vault_rules.specs.Showing.{Shows, ShowsRight}
 use Rattle.vault_rules.specs.VaultOf.{AreKeysApart, HasKeysApart, number_key, vault_of}
 use Rattle.vault_rules.specs.declared.rows.RawRight.{RawRight}
-use Rattle.vault_schema.proofs.TablesBehind.{behind, behind_four, indexes_behind, indexes_behind_four}
-use Rattle.vault_schema.proofs.TablesBehind.{schema_fourth, schema_is}
+use Rattle.vault_schema.proofs.TablesBehind.{behind, behind_from, indexes_behind, indexes_behind_from}
+use Rattle.vault_schema.proofs.TablesBehind.{schema_from, schema_is}
 use Rattle.vault_schema.proofs.ByTable.{AreHeld}
 use Rattle.vault_schema.proofs.Layers.{free_in, layers_after}
 use Rattle.vault_schema.proofs.Newest as newest_tables
-use Rattle.vault_schema.proofs.Version1.Codes as first
-use Rattle.vault_schema.proofs.Version4 as fourth
+use Rattle.vault_schema.proofs.RightCodes.{old_rights_in_first}
+use Rattle.vault_schema.proofs.RightCodes.{right_coding, rights_in_fourth}
 use Rattle.vault_schema.specs.Stands.{lookups_of}
-use Rattle.vault_schema.specs.Version1.Rows as one
-use Rattle.vault_schema.specs.Version1.Rows.{number_or_null}
-use Rattle.vault_schema.specs.Version1.Tables as v1
-use Rattle.vault_schema.specs.Version4 as four
+use Rattle.vault_schema.specs.Rights.{no_columns, old_right_row}
+use Rattle.vault_schema.specs.Rights.{right_key}
+use Rattle.vault_schema.specs.Values.{number_or_null}
+use Rattle.vault_schema.specs.Rights.{old_rights}
+use Rattle.vault_schema.specs.Rights.{ends_column, right_row as four_right_row, rights as rights_table}
+use Rattle.vault_schema.specs.Rights.{older_right}
 use Rattle.vault_schema.specs.Versions.{AreEndless, HasDefaults, Lookups, OldRights, Rights, layers, newest}
 use Rattle.vault_schema.specs.Versions.{schema_of, second_layers}
 use Rattle.vault_schema.specs.declared.version.Version.{Version}
 use Rattle.vault_schema.specs.declared.version.Version.TheVariants.{Four}
-use Rattle.vault_tables.specs.Rights.{endless, right_values}
+use Rattle.vault_tables.specs.RightTexts.{with_first_end, right_values}
 use Rattle.vault_verdict.proofs.Sources.{moment_as, moment_told}
 use Rattle.vault_verdict.proofs.Left.{AreGone}
 use Rattle.vault_verdict.proofs.ReplacedTable.{AreSaid, Replaced, by_table, narrow_up, said_of_read}
@@ -63,11 +65,11 @@ abbrev right_told : Bytes × (Bytes × ℤ) → Bytes × (Bytes × Right)
 right_told q = (q.0, (q.1.0, right_of q.1.1))
 
 -- the columns of the key tell it
-right_back : (q : Bytes × (Bytes × ℤ)) (k : Bytes × (Bytes × Right)) → whose q ≡ one.right_key k
+right_back : (q : Bytes × (Bytes × ℤ)) (k : Bytes × (Bytes × Right)) → whose q ≡ right_key k
     → right_told q ≡ k
 right_back q k e = grind arith
 
-abbrev by_right : Listing one.right_key 3 (Bytes × (Bytes × ℤ))
+abbrev by_right : Listing right_key 3 (Bytes × (Bytes × ℤ))
 by_right = record {
   shows = whose;
   key_of = right_told;
@@ -82,32 +84,32 @@ old_right_values r =
 
 module _ (others : List SqlTable) (indexes : List Index) where
   -- without an end
-  abbrev old_right_table : (free : IsFree others indexes v1.rights 3)
-      → Table (keyed_in_grown first.right_table others indexes free) RawRight (Bytes × (Bytes × ℤ))
+  abbrev old_right_table : (free : IsFree others indexes old_rights 3)
+      → Table (keyed_in_grown old_rights_in_first others indexes free) RawRight (Bytes × (Bytes × ℤ))
   old_right_table free = listed_by by_right old_right_values number_key (λ r. refl)
 
   -- with an end, or none
-  abbrev ending_right_table : (free : IsFree others indexes four.rights 3)
-      → Table (keyed_in_grown fourth.right_table others indexes free) RawRight (Bytes × (Bytes × ℤ))
+  abbrev ending_right_table : (free : IsFree others indexes rights_table 3)
+      → Table (keyed_in_grown rights_in_fourth others indexes free) RawRight (Bytes × (Bytes × ℤ))
   ending_right_table free = listed_by by_right right_values number_key (λ r. refl)
 
 -- that of the newest schema
 abbrev newest_right_table : Table newest_tables.right_table RawRight (Bytes × (Bytes × ℤ))
-newest_right_table = ending_right_table (behind_four newest) (indexes_behind_four newest) refl
+newest_right_table = ending_right_table (behind_from newest Four) (indexes_behind_from newest Four) refl
 
 -- no later index guards their keys
 module _ (v : Version) where
-  old_rights_free : IsFree (behind v) (indexes_behind v) v1.rights 3
-  old_rights_free = free_in v v1.rights (columns_to 3) second_layers refl
+  old_rights_free : IsFree (behind v) (indexes_behind v) old_rights 3
+  old_rights_free = free_in v old_rights (columns_to 3) second_layers refl
 
-  ending_rights_free : IsFree (behind_four v) (indexes_behind_four v) four.rights 3
-  ending_rights_free = free_in v four.rights (columns_to 3) (layers_after Four layers) refl
+  ending_rights_free : IsFree (behind_from v Four) (indexes_behind_from v Four) rights_table 3
+  ending_rights_free = free_in v rights_table (columns_to 3) (layers_after Four layers) refl
 
 -- the older table, and the one that came for it: what is read of the older one has no end
 abbrev pub replaced_rights : Replaced RawRight
 replaced_rights = record {
   since = Four;
-  older = 10;
+  older = λ db. db 10;
   newer = 19;
   wide = right_values;
   narrow = old_right_values;
@@ -124,8 +126,8 @@ pub rights_apart : (v : Version) (db : Database) → db.schema ≡ schema_of v �
 rights_apart v db ours sound items are up =
     by_table replaced_rights v db.trees items are (λ b. AreKeysApart number_key items)
     (λ has these. keys_apart
-    (ending_right_table (behind_four v) (indexes_behind_four v) (ending_rights_free v)) db
-    (ours ∙ schema_fourth v has) sound items these up)
+    (ending_right_table (behind_from v Four) (indexes_behind_from v Four) (ending_rights_free v)) db
+    (ours ∙ schema_from v Four refl has) sound items these up)
     (λ these none. keys_apart (old_right_table (behind v) (indexes_behind v) (old_rights_free v)) db
     (ours ∙ schema_is v) sound items these (narrow_up replaced_rights v db.trees items are up))
 
@@ -134,9 +136,9 @@ rights_apart v db ours sound items are up =
 -- the older table with no end beside each row
 with_no_ends : (held : Bytes × (Bytes × Right) → _) (rows : List Row)
     → ((key : Bytes × (Bytes × Right)) (g : GrantRow) → held key ≡ Some g → number_or_null g.ends ≡ Null)
-    → OldRights held rows → Rights held (map endless rows)
+    → OldRights held rows → Rights held (map with_first_end rows)
 with_no_ends held rows none are =
-    widened Null one.right_key one.no_columns four.ends_column fourth.right_coding four.older
+    widened Null right_key no_columns ends_column right_coding older_right
     (λ key g at. λ i. none key g at i ∷ []) are
 
 -- what a version says of its tables is so of the rows that are read
@@ -172,14 +174,14 @@ module _ (rows : Rows) (apart : HasKeysApart rows) (keep : (r : ℕ) → keeps r
 
   -- where no row has an end, no right ends
   are_endless : ((r : RawRight) → Has rows.rights r → int_value r.ends ≡ Null) → AreEndless h
-  are_endless endless key g is =
+  are_endless with_first_end key g is =
       let row = right_row rows key.0 key.1.0 key.1.1 g is in
-      let none = no_end row.0.ends (endless row.0 row.1) in
+      let none = no_end row.0.ends (with_first_end row.0 row.1) in
       sym (ap (λ (x : GrantRow). x.ends) row.3) ∙ ap (option_map natural) none
 
   -- each row has the columns of a right, and each right has its row
   listed : (r : RawRight) → Has rows.rights r
-      → (key : Bytes × (Bytes × Right)) × (g : GrantRow) × (drop 1 (right_values r) ≡ four.right_row key g)
+      → (key : Bytes × (Bytes × Right)) × (g : GrantRow) × (drop 1 (right_values r) ≡ four_right_row key g)
       × (h.rights key ≡ Some g)
   listed r there =
       let it = shows.rights r there in
@@ -197,10 +199,10 @@ module _ (rows : Rows) (apart : HasKeysApart rows) (keep : (r : ℕ) → keeps r
 
   -- so it is without the end
   old_listed : (r : RawRight) → Has rows.rights r
-      → (key : Bytes × (Bytes × Right)) × (x : Unit {0}) × (drop 1 (old_right_values r) ≡ one.right_row key x)
-      × (option_map four.older (h.rights key) ≡ Some x)
+      → (key : Bytes × (Bytes × Right)) × (x : Unit {0}) × (drop 1 (old_right_values r) ≡ old_right_row key x)
+      × (option_map older_right (h.rights key) ≡ Some x)
   old_listed r there =
-      let it = listed r there in (it.0, tt, grind (arith, it.2), ap (option_map four.older) it.3)
+      let it = listed r there in (it.0, tt, grind (arith, it.2), ap (option_map older_right) it.3)
 
   module _ (db : Database) (sound : IsDatabase db) (v : Version) (ours : db.schema ≡ schema_of v) where
     -- what is said of the table of schema 1, of that of schema 4, and of each end before schema 4
@@ -210,8 +212,8 @@ module _ (rows : Rows) (apart : HasKeysApart rows) (keep : (r : ℕ) → keeps r
     rights_said are up gone =
         said_where_read replaced_rights v db.trees rows.rights are up _ _ _ gone.1.1.1.1.1.0
         (λ has these up. stand_for
-        (ending_right_table (behind_four v) (indexes_behind_four v) (ending_rights_free v)) db
-        (ours ∙ schema_fourth v has) sound _ these up listed row_there)
+        (ending_right_table (behind_from v Four) (indexes_behind_from v Four) (ending_rights_free v)) db
+        (ours ∙ schema_from v Four refl has) sound _ these up listed row_there)
         (λ these up. stand_for (old_right_table (behind v) (indexes_behind v) (old_rights_free v)) db
         (ours ∙ schema_is v) sound _ these up old_listed
-        (λ key x is. let g = mapped_is four.older (h.rights key) x is in row_there key g.0 g.1)) are_endless
+        (λ key x is. let g = mapped_is older_right (h.rights key) x is in row_there key g.0 g.1)) are_endless

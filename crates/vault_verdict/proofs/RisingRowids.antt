@@ -6,7 +6,7 @@ use Rattle.std.specs.FinMap.{int_cmp-IsAntisymmetric}
 use Rattle.std.specs.List.{IsAllAdjacentAnswer}
 use Rattle.std.specs.List.Sorted.{IsSortedByKey}
 use Rattle.std.specs.Ordering.{int_cmp, is_lt}
-use Rattle.std.specs.Prelude.{◌<ℤ◌, ◌≢◌, int_lt}
+use Rattle.std.specs.Prelude.{◌≢◌, int_lt}
 use Rattle.std.proofs.lemmas.Cmp.{int_cmp_total, int_ranked, tied_itself}
 use Rattle.std.proofs.lemmas.Int.{ints}
 use Rattle.std.proofs.lemmas.List.{get_or-map, length-map}
@@ -16,9 +16,10 @@ use Rattle.sqlite.specs.declared.types.Value.TheVariants.{Int}
 use Rattle.sqlite_rules.proofs.ListLemmas.{all_has, all_from}
 use Rattle.sqlite_rules.proofs.ProbeLemmas.{has_mapped}
 use Rattle.sqlite_value.proofs.OrderLemmas.{value_cmp-Int}
-use Rattle.sql_maps.specs.Rows.{IsApart}
+use Rattle.sql_tables.specs.Rows.{IsApart}
 use Rattle.vault_verdict.specs.Apart.{TellsApart}
 use Rattle.vault_rules.specs.RisingNumbers.{are_rising}
+use Rattle.std.specs.Prelude.{◌<ℤ◌}
 
 -- what is below isn't tied, and what isn't below and isn't above is
 never_tied : (a b : ℤ) → a <ℤ b → value_cmp (Int a) (Int b) ≢ Equal

@@ -12,8 +12,8 @@ use Rattle.std.specs.Prelude.{string_bytes}
 use Rattle.sqlite.proofs.Callers.{one_permutation}
 use Rattle.sqlite.specs.Tree.{Trees}
 use Rattle.sqlite_rules.specs.Lists.{Has}
-use Rattle.sql_maps.proofs.HowMany.{as_many}
-use Rattle.sql_maps.specs.Rows.{AreRowsOf}
+use Rattle.sql_tables.proofs.HowMany.{as_many}
+use Rattle.sql_tables.specs.Rows.{AreRowsOf}
 use Rattle.vault_core.proofs.Maps.{entry_total, entry_exact}
 use Rattle.vault_core.specs.Keys.{Bytes, bytes_cmp}
 use Rattle.vault_core.specs.Vault.{Vault, Merchant, merchant_at, entry_at, made_count}
@@ -21,7 +21,7 @@ use Rattle.vault_core.specs.Numbers.{use_number}
 use Rattle.vault_core.specs.declared.row.Entry.{Entry}
 use Rattle.vault_core.specs.declared.usage.Use.{Use}
 use Rattle.vault_core.specs.declared.usage.Use.TheVariants.{Single, Multi}
-use Rattle.sql_maps.proofs.Determined.{both_ways}
+use Rattle.sql_tables.proofs.Determined.{both_ways}
 use Rattle.vault_verdict.proofs.Merchants.{merchant_shown, merchant_there}
 use Rattle.vault_verdict.proofs.Rights.{right_shown}
 use Rattle.vault_schema.specs.Versions.{Merchants, Rights}
@@ -31,10 +31,11 @@ use Rattle.vault_verdict.proofs.Tables as tables
 use Rattle.vault_verdict.proofs.VersionRows.{one_shown}
 use Rattle.vault_verdict.specs.Opened.{AreVersions}
 use Rattle.vault_verdict.specs.ReadAs.{merchants_in, rights_in}
-use Rattle.vault_verdict.specs.Raw.{version_values}
-use Rattle.vault_tables.specs.Merchants.{merchant_values}
-use Rattle.vault_tables.specs.Rights.{right_values}
-use Rattle.vault_verdict.specs.Raw as raw
+use Rattle.vault_tables.specs.VersionTexts.{version_values}
+use Rattle.vault_tables.specs.MerchantTexts.{merchant_values}
+use Rattle.vault_tables.specs.RightTexts.{right_values}
+use Rattle.vault_tables.specs.CountTexts.{count_values}
+use Rattle.vault_tables.specs.RecordTexts.{record_values}
 use Rattle.vault_verdict.specs.Reading.{shown_by, version_columns}
 use Rattle.vault_rules.specs.Codes.{natural, use_of}
 use Rattle.vault_rules.proofs.Counts.{count_total, count_cases}
@@ -50,9 +51,10 @@ use Rattle.vault_rules.specs.declared.rows.RawCard.{RawCard}
 use Rattle.vault_rules.specs.declared.rows.RawCount.{RawCount}
 use Rattle.vault_rules.specs.declared.rows.RawEntry.{RawEntry}
 use Rattle.vault_rules.specs.AllRows.{Rows}
-use Rattle.vault_schema.proofs.Newest.{merchant_coding}
-use Rattle.vault_schema.specs.Version1.Claims.{IsVersion}
-use Rattle.vault_schema.specs.Version1.Rows as row
+use Rattle.vault_schema.proofs.MerchantCodes.{merchant_coding}
+use Rattle.vault_schema.specs.VersionRows.{IsVersion}
+use Rattle.vault_schema.specs.Counts.{count_row}
+use Rattle.vault_schema.specs.Records.{record_row}
 use Rattle.vault_schema.specs.declared.version.Version.{Version}
 use Rattle.vault_core.specs.Lives.{lives_in}
 use Rattle.vault_schema.specs.Stands.{count_at, lookups_of, unless_zero}
@@ -103,12 +105,12 @@ moment_same (Some n) = refl
 -- how they were read
 pub record AreShared (v : Version) (db : Trees) (V : Vault) (rows : Rows) : Type 0 where
   pub merchants : Merchants (lookups_of V).merchants (merchants_in v db)
-  pub counts : AreRowsOf row.count_row (db 3) (lookups_of V).counts
-  pub records : AreRowsOf row.record_row (db 8) (lookups_of V).records
+  pub counts : AreRowsOf count_row (db 3) (lookups_of V).counts
+  pub records : AreRowsOf record_row (db 8) (lookups_of V).records
   pub rights : Rights (lookups_of V).rights (rights_in v db)
   pub merchants_are : IsPermutation (merchants_in v db) (map merchant_values rows.merchants)
-  pub counts_are : IsPermutation (db 3) (map raw.count_values rows.counts)
-  pub records_are : IsPermutation (db 8) (map raw.record_values rows.records)
+  pub counts_are : IsPermutation (db 3) (map count_values rows.counts)
+  pub records_are : IsPermutation (db 8) (map record_values rows.records)
   pub rights_are : IsPermutation (rights_in v db) (map right_values rows.rights)
 
 -- each row of an entry shows the entry that the vault has at its key

@@ -4,16 +4,18 @@ use Rattle.std.proofs.Common.{◌∙◌, ap, refl}
 use Rattle.sqlite.specs.Effect.{Database, IsDatabase}
 use Rattle.sqlite.specs.Tree.{Trees}
 use Rattle.sqlite_rules.specs.Lists.{Has}
-use Rattle.sql_maps.specs.Rows.{AreRowsById, AreRowsOf, IsApart}
-use Rattle.sql_maps.specs.States.{StandsIn}
+use Rattle.sql_tables.specs.Rows.{AreRowsById, AreRowsOf, IsApart}
+use Rattle.sql_tables.specs.States.{StandsIn}
 use Rattle.vault_core.specs.Vault.{Vault}
 use Rattle.vault_schema.proofs.TablesBehind.{schema_first}
 use Rattle.vault_schema.proofs.ByTable.{first_entries, held, joined_cards, joined_pointing}
 use Rattle.vault_schema.specs.Stands.{lookups_of}
-use Rattle.vault_schema.specs.Version1.Claims.{IsVersion}
-use Rattle.vault_schema.specs.Version1.Rows as one
-use Rattle.vault_schema.specs.Version2.Joined.{joined}
-use Rattle.vault_schema.specs.Version2.Rows.{card_columns, pointing_row}
+use Rattle.vault_schema.specs.VersionRows.{IsVersion}
+use Rattle.vault_schema.specs.Counts.{count_row}
+use Rattle.vault_schema.specs.Records.{record_row}
+use Rattle.vault_schema.specs.Joined.{joined}
+use Rattle.vault_schema.specs.Cards.{card_columns}
+use Rattle.vault_schema.specs.Entries.{pointing_row}
 use Rattle.vault_schema.specs.Layers.{Either}
 use Rattle.vault_schema.specs.Versions.{Lookups, Merchants}
 use Rattle.vault_schema.specs.Versions.{Rights, Stand, StandJoined, has_cards}
@@ -30,9 +32,9 @@ use Rattle.vault_verdict.proofs.OldRows as old
 use Rattle.vault_verdict.proofs.Permuted.{apart_permuted}
 use Rattle.vault_verdict.proofs.ShownCards as cards
 use Rattle.vault_verdict.specs.Opened.{AreRaws, AreVersions}
-use Rattle.vault_verdict.specs.Raw.{old_entry_values}
+use Rattle.vault_tables.specs.EntryTexts.{old_entry_values}
 use Rattle.vault_verdict.specs.ReadAs.{AreCards, AreOlders, merchants_in, replaced_in, rights_in}
-use Rattle.vault_verdict.specs.declared.replaced.OldEntry.{OldEntry}
+use Rattle.vault_tables.specs.declared.entries.old.OldEntry.{OldEntry}
 use Rattle.vault_rules.specs.Showing.{Shows, ShowsCard}
 use Rattle.vault_rules.specs.VaultOf.{HasKeysApart, entry_key}
 use Rattle.vault_rules.specs.declared.rows.RawCard.{RawCard}
@@ -44,8 +46,8 @@ use Rattle.vault_rules.specs.AllRows.{Rows}
 pub record AreClaimed (v : Version) (db : Trees) (h : Lookups) : Type 0 where
   pub version : IsVersion (natural_of v) (db 0)
   pub merchants : Merchants h.merchants (merchants_in v db)
-  pub counts : AreRowsOf one.count_row (db 3) h.counts
-  pub records : AreRowsOf one.record_row (db 8) h.records
+  pub counts : AreRowsOf count_row (db 3) h.counts
+  pub records : AreRowsOf record_row (db 8) h.records
   pub rights : Rights h.rights (rights_in v db)
   pub replaced : replaced_in v db ≡ 0
 

@@ -5,7 +5,7 @@ use Rattle.std.specs.Prelude.{string_bytes}
 use Rattle.sqlite.specs.Tree.{Trees}
 use Rattle.sqlite.specs.declared.types.Value.TheVariants.{Int}
 use Rattle.sqlite_rules.specs.Lists.{Has}
-use Rattle.sql_maps.specs.Rows.{AreRowsById, AreRowsOf}
+use Rattle.sql_tables.specs.Rows.{AreRowsById, AreRowsOf}
 use Rattle.vault_core.specs.Keys.{Bytes}
 use Rattle.vault_core.specs.declared.row.Entry.{Entry}
 use Rattle.vault_verdict.proofs.InTree.{in_items, in_tree}
@@ -13,9 +13,9 @@ use Rattle.vault_verdict.proofs.Pointers.{one_number, pointing_are}
 use Rattle.vault_verdict.proofs.Table.{pair_of, row_at}
 use Rattle.vault_verdict.proofs.Tables as tables
 use Rattle.vault_verdict.specs.ReadAs.{AreCards}
-use Rattle.sql_stored.specs.Values.{int_value}
-use Rattle.vault_verdict.specs.Raw.{card_row}
-use Rattle.vault_verdict.specs.Raw as raw
+use Rattle.sql_tables.specs.Values.{int_value}
+use Rattle.vault_tables.specs.CardTexts.{card_row}
+use Rattle.vault_tables.specs.EntryTexts.{entry_values}
 use Rattle.vault_rules.proofs.Held.{card_held}
 use Rattle.vault_rules.proofs.Options.{mapped_is}
 use Rattle.vault_rules.specs.Lookups.{card_of, used_by}
@@ -24,12 +24,14 @@ use Rattle.vault_rules.specs.VaultOf.{HasKeysApart, entry_key}
 use Rattle.vault_rules.specs.declared.rows.RawCard.{RawCard}
 use Rattle.vault_rules.specs.declared.rows.RawEntry.{RawEntry}
 use Rattle.vault_rules.specs.AllRows.{Rows}
-use Rattle.vault_schema.proofs.Version2.Codes.{id_same}
-use Rattle.vault_schema.specs.Version2.Joined.{AreJoined, joined, nothing_owed, number_of}
-use Rattle.vault_schema.specs.Version2.Joined as schema
-use Rattle.vault_schema.specs.Version2.Rows.{card_columns, id_or_null, pointing_row}
-use Rattle.vault_schema.specs.declared.v2.Card.{Card}
-use Rattle.vault_schema.specs.declared.v2.Pointing.{Pointing}
+use Rattle.vault_schema.proofs.Values.{id_same}
+use Rattle.vault_schema.specs.Joined.{AreJoined, joined, nothing_owed, number_of}
+use Rattle.vault_schema.specs.Joined as schema
+use Rattle.vault_schema.specs.Cards.{card_columns}
+use Rattle.vault_schema.specs.Values.{id_or_null}
+use Rattle.vault_schema.specs.Entries.{pointing_row}
+use Rattle.vault_schema.specs.declared.rows.Card.{Card}
+use Rattle.vault_schema.specs.declared.rows.Pointing.{Pointing}
 
 -- a card row as it stands tells its card
 record IsCardRow (x : RawCard) (id : ℤ) (c : Card) : Type 0 where
@@ -48,7 +50,7 @@ id_shown (Some id) = refl
 
 -- an entry row as it stands tells the card that it points at
 card_in : (e : RawEntry) (key : Bytes × Bytes) (x : Pointing)
-    → drop 1 (raw.entry_values e) ≡ pointing_row key x → e.card ≡ x.card
+    → drop 1 (entry_values e) ≡ pointing_row key x → e.card ≡ x.card
 card_in e key x is =
     let same : int_value e.card ≡ id_or_null x.card = grind arith in
     id_same e.card x.card (sym (id_shown e.card) ∙ same)
@@ -86,7 +88,7 @@ module _ (db : Trees) {cards : ℤ → Option Card} {pointing : Bytes × Bytes �
   -- the entry of a row, as it points
   pub pointing_of : (e : RawEntry) → Has rows.entries e
       → (x : Pointing) × (pointing (entry_key e) ≡ Some x) × (e.card ≡ x.card)
-      × (drop 1 (raw.entry_values e) ≡ pointing_row (entry_key e) x)
+      × (drop 1 (entry_values e) ≡ pointing_row (entry_key e) x)
   pointing_of e h =
       let it = pair_of tables.entries _ raws.entries entry_rows e h in
       (it.0, it.2, card_in e (entry_key e) it.0 it.1, it.1)

@@ -4,8 +4,8 @@ use Rattle.std.proofs.Common.{arith}
 use Rattle.std.proofs.lemmas.Bool.Decides.{nat_tests}
 use Rattle.std.proofs.lemmas.Grind.{common_steps}
 use Rattle.vault_schema.specs.Stands.{unless_zero}
-use Rattle.vault_schema.specs.Version1.Rows.{number_or_null}
-use Rattle.sql_stored.specs.Values.{int_value}
+use Rattle.vault_schema.specs.Values.{number_or_null}
+use Rattle.sql_tables.specs.Values.{int_value}
 
 -- a count that has no row is 0
 pub none_unless : (n : ℕ) → unless_zero n ≡ None → n ≡ 0

@@ -6,9 +6,9 @@ use Rattle.sqlite.specs.Table.{Table as SqlTable}
 use Rattle.sqlite.specs.declared.types.Value.TheVariants.{Int, Text}
 use Rattle.sqlite_rules.specs.Lists.{Has}
 use Rattle.sqlite_schema.specs.declared.schema.Index.{Index}
-use Rattle.sql_maps.proofs.Keys.{IsGuarded}
-use Rattle.sql_maps.specs.Rows.{AreRowsById, AreRowsOf, IsApart}
-use Rattle.sql_maps.specs.Schema.{columns_to, grown, guards_of, table_of}
+use Rattle.sql_tables.specs.Maps.{IsGuarded}
+use Rattle.sql_tables.specs.Rows.{AreRowsById, AreRowsOf, IsApart}
+use Rattle.sql_tables.specs.Schema.{columns_to, grown, guards_of, table_of}
 use Rattle.std.specs.List.Sorted.{IsPermutation}
 use Rattle.vault_core.specs.Keys.{Bytes}
 use Rattle.vault_core.specs.declared.row.Entry.{Entry}
@@ -19,7 +19,10 @@ use Rattle.vault_verdict.proofs.InVersion.{counts_free, records_free}
 use Rattle.vault_verdict.proofs.Joining.{cards_in, entry_first, pointing_in, pointing_value, rows_joined}
 use Rattle.vault_verdict.proofs.Table.{stand_for}
 use Rattle.vault_verdict.proofs.Tables as tables
-use Rattle.vault_verdict.specs.Raw as raw
+use Rattle.vault_tables.specs.CardTexts.{card_row}
+use Rattle.vault_tables.specs.CountTexts.{count_values}
+use Rattle.vault_tables.specs.EntryTexts.{entry_values}
+use Rattle.vault_tables.specs.RecordTexts.{record_values}
 use Rattle.vault_verdict.specs.ReadAs.{AreCards}
 use Rattle.vault_rules.specs.Codes.{natural}
 use Rattle.vault_rules.proofs.Counts.{counts_are, count_cases}
@@ -37,17 +40,20 @@ use Rattle.vault_rules.specs.declared.rows.RawCount.{RawCount}
 use Rattle.vault_rules.specs.declared.rows.RawEntry.{RawEntry}
 use Rattle.vault_rules.specs.AllRows.{Rows}
 use Rattle.vault_schema.specs.Stands.{count_at, lookups_of, unless_zero}
-use Rattle.vault_schema.specs.Version1.Rows as one
-use Rattle.vault_schema.specs.Version2.Joined.{AreJoined, nothing_owed}
-use Rattle.vault_schema.specs.Version2.Rows.{card_columns, pointing_row}
-use Rattle.vault_schema.specs.Version2.Tables as v2
-use Rattle.vault_schema.specs.Version2.Tables.{v2 as second_schema}
+use Rattle.vault_schema.specs.Counts.{count_row}
+use Rattle.vault_schema.specs.Records.{record_row as one_record_row}
+use Rattle.vault_schema.specs.Joined.{AreJoined, nothing_owed}
+use Rattle.vault_schema.specs.Cards.{card_columns}
+use Rattle.vault_schema.specs.Entries.{pointing_row}
+use Rattle.vault_schema.specs.Cards.{cards as cards_table}
+use Rattle.vault_schema.specs.Entries.{entries as entries_table}
+use Rattle.vault_schema.specs.Schemas.{v2 as second_schema}
 use Rattle.vault_schema.specs.Versions.{Lookups, schema_of}
 use Rattle.vault_schema.specs.declared.version.Version.{Version}
 
 -- a row of an entry is listed as it points
 entry_listed : (cards : List RawCard) (e : RawEntry) (entry : Entry) → ShowsEntry cards e entry
-    → drop 1 (raw.entry_values e) ≡ pointing_row (entry_key e) (pointing_value e)
+    → drop 1 (entry_values e) ≡ pointing_row (entry_key e) (pointing_value e)
 entry_listed cards e entry it = grind (arith, it.usage, it.birth, it.expires, it.revoked)
 
 module _ (rows : Rows) (apart : HasKeysApart rows) (keep : (r : ℕ) → keeps rows r ≡ true) where
@@ -72,8 +78,8 @@ module _ (rows : Rows) (apart : HasKeysApart rows) (keep : (r : ℕ) → keeps r
     -- ---- the tables that each version has
 
     module _ (v : Version) (ours : db.schema ≡ schema_of v) where
-      pub counts_stand : IsPermutation (db.trees 3) (map raw.count_values rows.counts)
-          → IsApart (map raw.count_values rows.counts) → AreRowsOf one.count_row (db.trees 3) h.counts
+      pub counts_stand : IsPermutation (db.trees 3) (map count_values rows.counts)
+          → IsApart (map count_values rows.counts) → AreRowsOf count_row (db.trees 3) h.counts
       counts_stand are up =
           stand_for (tables.counts_in (behind v) (indexes_behind v) (counts_free v)) db (ours ∙ schema_is v)
           sound _ are up
@@ -84,25 +90,25 @@ module _ (rows : Rows) (apart : HasKeysApart rows) (keep : (r : ℕ) → keeps r
           (_, _, (λ i. Text name ∷ Int (it.kind.is i) ∷ Int (it.total.is i) ∷ []), at))
           counts_there
 
-      pub records_stand : IsPermutation (db.trees 8) (map raw.record_values rows.records)
-          → IsApart (map raw.record_values rows.records)
-          → AreRowsOf one.record_row (db.trees 8) h.records
+      pub records_stand : IsPermutation (db.trees 8) (map record_values rows.records)
+          → IsApart (map record_values rows.records)
+          → AreRowsOf one_record_row (db.trees 8) h.records
       records_stand are up =
           stand_for (tables.records_in (behind v) (indexes_behind v) (records_free v)) db (ours ∙ schema_is v)
           sound _ are up
           (λ r h.
           let it = shows.records r h in
-          let listed : drop 1 (raw.record_values r) ≡ one.record_row _ it.1 = grind (arith, it.2, it.4) in
+          let listed : drop 1 (record_values r) ≡ one_record_row _ it.1 = grind (arith, it.2, it.4) in
           ((string_bytes r.caller, it.0), it.1, listed, it.3))
           (λ k x h. let it = record_row rows k.0 k.1 x h in (it.0, it.1, it.2))
 
     -- cards, and the entries that point at them
     module _ (others : List SqlTable) (indexes : List Index)
-        (free : guards_of indexes (table_of v2.entries) (columns_to 2) ≡ [])
-        (guarded : IsGuarded (grown second_schema others indexes).indexes (table_of v2.cards) (2 ∷ 3 ∷ []))
+        (free : guards_of indexes (table_of entries_table) (columns_to 2) ≡ [])
+        (guarded : IsGuarded (grown second_schema others indexes).indexes (table_of cards_table) (2 ∷ 3 ∷ []))
         (ours : db.schema ≡ grown second_schema others indexes) (are : AreCards db.trees rows)
-        (cards_up : IsApart (map raw.card_row rows.cards))
-        (entries_up : IsApart (map raw.entry_values rows.entries)) where
+        (cards_up : IsApart (map card_row rows.cards))
+        (entries_up : IsApart (map entry_values rows.entries)) where
       pub cards_stand : AreRowsById card_columns (db.trees 12) (cards_in rows.cards)
       cards_stand = cards_by_id db _ are.cards cards_up (card_held rows apart)
           (λ c there. let it = (shows.cards c there).uses in it ∙ ap (λ z. pos (natural z)) (sym it))

@@ -2,8 +2,8 @@
 use Rattle.std.proofs.Common.{◌≡◌, ◌∙◌, ℕ, ℤ, pos, true, false, List, [], ◌∷◌, cond, Option, None}
 use Rattle.std.proofs.Common.{refl, subst, sym}
 use Rattle.sqlite.specs.Effect.{Database, IsDatabase}
-use Rattle.sql_maps.specs.Rows.{AreRowsById, AreRowsOf}
-use Rattle.sql_maps.specs.States.{StandsIn}
+use Rattle.sql_tables.specs.Rows.{AreRowsById, AreRowsOf}
+use Rattle.sql_tables.specs.States.{StandsIn}
 use Rattle.vault_core.specs.Keys.{Bytes}
 use Rattle.vault_core.specs.declared.row.Entry.{Entry}
 use Rattle.vault_schema.proofs.TablesBehind.{behind_two, cards_guarded, indexes_behind_two}
@@ -12,14 +12,15 @@ use Rattle.vault_schema.proofs.TablesBehind.{entries_free}
 use Rattle.vault_schema.proofs.Layers.{HoldAt, stands_at}
 use Rattle.vault_schema.specs.Layers.{Either, claim_or_empty, claims_at, claims_if}
 use Rattle.vault_schema.specs.Stands.{lookups_of}
-use Rattle.vault_schema.specs.Version1.Rows.{entry_row}
-use Rattle.vault_schema.specs.Version2.Rows.{card_columns, pointing_row}
+use Rattle.vault_schema.specs.Entries.{entry_row}
+use Rattle.vault_schema.specs.Cards.{card_columns}
+use Rattle.vault_schema.specs.Entries.{pointing_row}
 use Rattle.vault_schema.specs.Versions.{AreEndless, AreSix, Lookups, Merchants, OldMerchants, OldRights}
 use Rattle.vault_schema.specs.Versions.{Rights}
 use Rattle.vault_schema.specs.Versions.{Stand, StandJoined, Tables, has_cards, layers}
 use Rattle.vault_schema.specs.Versions.{natural_of, number_of, schema_of, tables_of, uncarded_claims}
-use Rattle.vault_schema.specs.declared.v2.Card.{Card}
-use Rattle.vault_schema.specs.declared.v2.Pointing.{Pointing}
+use Rattle.vault_schema.specs.declared.rows.Card.{Card}
+use Rattle.vault_schema.specs.declared.rows.Pointing.{Pointing}
 use Rattle.vault_schema.specs.declared.version.Version.{Version}
 use Rattle.vault_verdict.proofs.Left.{AreGone, gone_at, none_left}
 use Rattle.vault_verdict.proofs.Merchants.{merchants_said, replaced_merchants}
@@ -34,9 +35,9 @@ use Rattle.vault_verdict.proofs.StandByTable.{records_stand}
 use Rattle.vault_verdict.proofs.VersionRows.{version_stands}
 use Rattle.vault_verdict.specs.Apart.{AreApart}
 use Rattle.vault_verdict.specs.Opened.{AreRaws}
-use Rattle.sql_stored.specs.Reading.{any_left}
+use Rattle.sql_tables.specs.Reading.{any_left}
 use Rattle.vault_verdict.specs.ReadAs.{AreCards, AreOlders}
-use Rattle.vault_verdict.specs.declared.replaced.OldEntry.{OldEntry}
+use Rattle.vault_tables.specs.declared.entries.old.OldEntry.{OldEntry}
 use Rattle.vault_rules.proofs.RowsShow.{rows_show}
 use Rattle.vault_rules.specs.Rules.{keeps}
 use Rattle.vault_rules.specs.VaultOf.{HasKeysApart, vault_of}

@@ -15,12 +15,13 @@ use Rattle.sqlite.specs.declared.types.Value.TheVariants.{Int}
 use Rattle.sqlite_rules.specs.Lists.{Has}
 use Rattle.sqlite_rules.proofs.ProbeLemmas.{mapped_has}
 use Rattle.sqlite_value.proofs.OrderLemmas.{value_cmp_total}
-use Rattle.sql_maps.proofs.ByKey.{same_row}
-use Rattle.sql_maps.proofs.Keys.{Keyed, same_behind, same_first}
-use Rattle.sql_maps.proofs.Unique.{one_at_key}
-use Rattle.sql_maps.specs.Codes.{row_of, same_values}
-use Rattle.sql_maps.specs.Rows.{AreRowsOf, IsApart}
-use Rattle.sql_maps.specs.Schema.{below, columns_to}
+use Rattle.sql_tables.proofs.ByKey.{same_row}
+use Rattle.sql_tables.specs.Maps.{Keyed}
+use Rattle.sql_tables.proofs.Keys.{same_behind, same_first}
+use Rattle.sql_tables.proofs.Unique.{one_at_key}
+use Rattle.sql_tables.specs.Codes.{row_of, same_values}
+use Rattle.sql_tables.specs.Rows.{AreRowsOf, IsApart}
+use Rattle.sql_tables.specs.Schema.{below, columns_to}
 use Rattle.vault_core.proofs.Finds.{some_same}
 use Rattle.vault_verdict.proofs.InTree.{in_items, in_tree, keys_by_rowid}
 use Rattle.vault_verdict.proofs.Permuted.{apart_permuted}

@@ -11,13 +11,13 @@ use Rattle.sqlite_rules.specs.Lists.{Has}
 use Rattle.sqlite_rules.proofs.RuleLemmas.{keeps_at}
 use Rattle.sqlite_schema.specs.Rules.{are_typed}
 use Rattle.sqlite_schema.specs.declared.schema.Constraint.TheVariants.{Datatype}
-use Rattle.sql_maps.specs.Schema.{table_of}
+use Rattle.sql_tables.specs.Schema.{table_of}
 use Rattle.vault_verdict.specs.Opened.{AreVersions}
-use Rattle.vault_verdict.specs.Raw.{version_values}
+use Rattle.vault_tables.specs.VersionTexts.{version_values}
 use Rattle.vault_verdict.specs.Reading.{shown_by, version_columns}
 use Rattle.vault_rules.specs.declared.rows.RawVersion.{RawVersion}
-use Rattle.vault_schema.specs.Version1.Claims.{IsVersion}
-use Rattle.vault_schema.specs.Version1.Tables.{vault}
+use Rattle.vault_schema.specs.VersionRows.{IsVersion}
+use Rattle.vault_schema.specs.VersionRows.{vault}
 use Rattle.vault_schema.specs.Versions.{schema_of}
 use Rattle.vault_schema.specs.declared.version.Version.{Version}
 

@@ -8,10 +8,10 @@ use Rattle.sqlite.specs.declared.types.Value.{Value}
 use Rattle.sqlite_rules.proofs.ListLemmas.{all_from, all_has}
 use Rattle.sqlite_rules.proofs.ProbeLemmas.{has_mapped, mapped_has}
 use Rattle.sqlite_rules.specs.Lists.{Has}
-use Rattle.sql_maps.proofs.ConstantColumns.{beside}
-use Rattle.sql_maps.proofs.ByKey.{Coding}
-use Rattle.sql_maps.specs.Codes.{row_of}
-use Rattle.sql_maps.specs.Rows.{AreRowsOf, IsApart}
+use Rattle.sql_tables.proofs.ConstantColumns.{beside}
+use Rattle.sql_tables.proofs.ByKey.{Coding}
+use Rattle.sql_tables.specs.Codes.{row_of}
+use Rattle.sql_tables.specs.Rows.{AreRowsOf, IsApart}
 use Rattle.vault_rules.proofs.Options.{mapped_is}
 
 module _ (v : Value) where

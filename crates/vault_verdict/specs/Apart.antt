@@ -4,12 +4,15 @@ use Rattle.std.specs.List.Sorted.{IsSortedByKey}
 use Rattle.std.specs.Ordering.{int_cmp}
 use Rattle.sqlite.specs.Order.{Row}
 use Rattle.sqlite.specs.Tree.{Trees}
-use Rattle.vault_tables.specs.Merchants.{merchant_values}
-use Rattle.vault_tables.specs.Rights.{right_values}
-use Rattle.vault_verdict.specs.Raw.{card_row, count_values, entry_values, record_values}
+use Rattle.vault_tables.specs.MerchantTexts.{merchant_values}
+use Rattle.vault_tables.specs.RightTexts.{right_values}
+use Rattle.vault_tables.specs.CardTexts.{card_row}
+use Rattle.vault_tables.specs.CountTexts.{count_values}
+use Rattle.vault_tables.specs.EntryTexts.{entry_values}
+use Rattle.vault_tables.specs.RecordTexts.{record_values}
 use Rattle.vault_verdict.specs.ReadAs.{merchants_in, rights_in}
 use Rattle.vault_rules.specs.AllRows.{Rows}
-use Rattle.sql_maps.specs.Rows.{IsApart}
+use Rattle.sql_tables.specs.Rows.{IsApart}
 use Rattle.vault_schema.specs.Layers.{Either}
 use Rattle.vault_schema.specs.Versions.{has_cards}
 use Rattle.vault_schema.specs.declared.version.Version.{Version}

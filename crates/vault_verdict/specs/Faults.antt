@@ -3,8 +3,8 @@ use Rattle.vault_refusal.specs.declared.refusal.Refusal.{Refusal}
 use Rattle.vault_refusal.specs.declared.refusal.Refusal.TheVariants as refusal
 use Rattle.vault_verdict.specs.declared.fault.OpenFault.{OpenFault}
 use Rattle.vault_verdict.specs.declared.fault.OpenFault.TheVariants.{WrongSchema, Damaged, Memory, Store}
-use Rattle.sql_stored.specs.declared.fault.StoreFault.{StoreFault}
-use Rattle.sql_stored.specs.declared.fault.StoreFault.TheVariants as read
+use Rattle.sql_tables.specs.declared.fault.StoreFault.{StoreFault}
+use Rattle.sql_tables.specs.declared.fault.StoreFault.TheVariants as read
 
 -- the refusal that a fault is
 abbrev pub refusal_of : OpenFault → Refusal

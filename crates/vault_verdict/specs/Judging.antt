@@ -6,16 +6,16 @@ use Rattle.sqlite.specs.State.{IsUnchanged}
 use Rattle.sqlite_trees.specs.declared.store.Store.{Ghosts}
 use Rattle.vault_verdict.specs.Apart.{AreApart, AreByRowid}
 use Rattle.vault_verdict.specs.Faults.{IsJudged}
-use Rattle.vault_tables.specs.Rights.{right_values}
-use Rattle.vault_verdict.specs.Raw.{record_values}
+use Rattle.vault_tables.specs.RightTexts.{right_values}
+use Rattle.vault_tables.specs.RecordTexts.{record_values}
 use Rattle.vault_verdict.specs.ReadAs.{replaced_in, rights_in}
-use Rattle.sql_stored.specs.Reading.{AreTable, IsAny}
+use Rattle.sql_tables.specs.Reading.{AreTable, IsAny}
 use Rattle.vault_verdict.specs.ReadAs.{AreRightsFull}
 use Rattle.vault_verdict.specs.Reading.{AreCardsIn, AreEntriesIn, IsUnreadOne}
 use Rattle.vault_verdict.specs.Sizes.{counts_of}
 use Rattle.vault_verdict.specs.declared.fault.OpenFault.{OpenFault}
 use Rattle.vault_verdict.specs.declared.fault.OpenFault.TheVariants.{Damaged, Store}
-use Rattle.vault_verdict.specs.declared.replaced.OldEntry.{OldEntry}
+use Rattle.vault_tables.specs.declared.entries.old.OldEntry.{OldEntry}
 use Rattle.vault_verdict.specs.declared.sizes.Sizes.{Sizes}
 use Rattle.vault_verdict.specs.declared.verdict.Judged.{Judged}
 use Rattle.vault_rules.specs.AllRows.{Rows}

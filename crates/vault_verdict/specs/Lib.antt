@@ -4,12 +4,10 @@ pub mod Judging
 pub mod Made
 pub mod Names
 pub mod Opened
-pub mod Raw
 pub mod ReadAs
 pub mod ReadIn
 pub mod Reading
 pub mod Refusals
-pub mod Scans
 pub mod Sizes
 pub mod Taken
 pub mod Versions

@@ -2,8 +2,8 @@
 use Rattle.std.specs.Prelude.{ℤ, pos, [], ◌∷◌, Option, option_map}
 use Rattle.sqlite.specs.Order.{Row}
 use Rattle.sqlite.specs.declared.types.Value.TheVariants.{Int}
-use Rattle.sql_stored.specs.Values.{int_value, row_text_value}
-use Rattle.vault_verdict.specs.declared.replaced.OldEntry.{OldEntry}
+use Rattle.sql_tables.specs.Values.{int_value, row_text_value}
+use Rattle.vault_tables.specs.declared.entries.old.OldEntry.{OldEntry}
 
 -- the card of an entry that has a number: its own, by the entry's rowid
 abbrev pub own_card : OldEntry → Option ℤ

@@ -7,14 +7,17 @@ use Rattle.sqlite.specs.Tree.{Trees}
 use Rattle.vault_core.specs.Sound.{Sound}
 use Rattle.vault_core.specs.Vault.{Vault, empty_vault}
 use Rattle.vault_verdict.specs.Names.{IsMixed, vault_names}
-use Rattle.vault_tables.specs.Merchants.{merchant_values}
-use Rattle.vault_tables.specs.Rights.{right_values}
-use Rattle.vault_verdict.specs.Raw.{count_values, old_entry_values, record_values, version_values}
+use Rattle.vault_tables.specs.MerchantTexts.{merchant_values}
+use Rattle.vault_tables.specs.RightTexts.{right_values}
+use Rattle.vault_tables.specs.CountTexts.{count_values}
+use Rattle.vault_tables.specs.EntryTexts.{old_entry_values}
+use Rattle.vault_tables.specs.RecordTexts.{record_values}
+use Rattle.vault_tables.specs.VersionTexts.{version_values}
 use Rattle.vault_verdict.specs.ReadAs.{AreEntries, merchants_in, replaced_in, rights_in}
 use Rattle.vault_verdict.specs.Reading.{IsOurs, shown_by, version_columns}
 use Rattle.vault_verdict.specs.Sizes.{sizes_of}
 use Rattle.vault_verdict.specs.Versions.{other_than, other_version}
-use Rattle.vault_verdict.specs.declared.replaced.OldEntry.{OldEntry}
+use Rattle.vault_tables.specs.declared.entries.old.OldEntry.{OldEntry}
 use Rattle.vault_verdict.specs.declared.fault.OpenFault.{OpenFault}
 use Rattle.vault_verdict.specs.declared.fault.OpenFault.TheVariants.{WrongSchema, Damaged}
 use Rattle.vault_verdict.specs.declared.sizes.Sizes.{Sizes}
@@ -24,7 +27,7 @@ use Rattle.vault_rules.specs.AllRows.{Rows}
 use Rattle.vault_schema.specs.Versioned.{HasVersion}
 use Rattle.vault_schema.specs.Holds.{Holds, LeavesEither, LeavesFirst}
 use Rattle.vault_schema.specs.Making.{IsReady}
-use Rattle.sql_maps.specs.Schema.{no_schema}
+use Rattle.sql_tables.specs.Schema.{no_schema}
 use Rattle.vault_schema.specs.Schema.{newest_schema}
 use Rattle.vault_schema.specs.Stands.{Stands, lookups_of, newest}
 use Rattle.vault_schema.specs.Layers.{Either}

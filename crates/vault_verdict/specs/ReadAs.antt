@@ -8,32 +8,34 @@ use Rattle.sqlite.specs.Order.{Row}
 use Rattle.sqlite.specs.Tree.{Trees}
 use Rattle.sqlite_schema.specs.declared.schema.Column.{Column}
 use Rattle.sqlite_trees.specs.declared.store.Store.{Ghosts}
-use Rattle.sql_stored.specs.Reading.{AreLonger, IsAny, IsUnread, any_left}
-use Rattle.sql_stored.specs.Scans.{id_values}
+use Rattle.sql_tables.specs.Reading.{AreLonger, IsAny, IsUnread, any_left}
+use Rattle.sql_tables.specs.Scans.{id_values}
 use Rattle.vault_rules.specs.AllRows.{Rows}
 use Rattle.vault_schema.specs.Layers.{Either, Layer, is_from, is_past}
 use Rattle.vault_schema.specs.Versions.{has_cards, layers, schema_of}
-use Rattle.vault_schema.specs.declared.v1.TheConstants.{READ_ENTRY_IDS}
+use Rattle.vault_tables.specs.declared.entries.old.TheConstants.{READ_OLD_ENTRY_IDS}
 use Rattle.vault_schema.specs.declared.version.Version.{Version}
 use Rattle.vault_schema.specs.declared.version.Version.TheVariants.{Three, Four}
-use Rattle.vault_tables.specs.Merchants.{with_six}
-use Rattle.vault_tables.specs.Rights.{endless}
+use Rattle.vault_tables.specs.MerchantTexts.{with_first_lead}
+use Rattle.vault_tables.specs.RightTexts.{with_first_end}
 use Rattle.vault_tables.specs.declared.merchants.TheConstants.{READ_MERCHANTS}
 use Rattle.vault_tables.specs.declared.merchants.old.TheConstants.{READ_MERCHANT_IDS, READ_OLD_MERCHANTS}
 use Rattle.vault_tables.specs.declared.rights.TheConstants.{READ_RIGHTS}
 use Rattle.vault_tables.specs.declared.rights.old.TheConstants.{READ_OLD_RIGHTS, READ_RIGHT_IDS}
 use Rattle.vault_verdict.specs.Made.{as_card, as_entry}
-use Rattle.vault_verdict.specs.Raw.{card_row, card_values, entry_values, old_entry_values}
-use Rattle.vault_verdict.specs.declared.replaced.OldEntry.{OldEntry}
+use Rattle.vault_tables.specs.CardTexts.{card_row, card_values}
+use Rattle.vault_tables.specs.EntryTexts.{entry_values}
+use Rattle.vault_tables.specs.EntryTexts.{old_entry_values}
+use Rattle.vault_tables.specs.declared.entries.old.OldEntry.{OldEntry}
 
 -- ---- the rows
 
 -- its merchants, and its rights
 abbrev pub merchants_in : Version → Trees → List Row
-merchants_in v db = cond (is_from Three v) (db 17) (map with_six (db 1))
+merchants_in v db = cond (is_from Three v) (db 17) (map with_first_lead (db 1))
 
 abbrev pub rights_in : Version → Trees → List Row
-rights_in v db = cond (is_from Four v) (db 19) (map endless (db 10))
+rights_in v db = cond (is_from Four v) (db 19) (map with_first_end (db 10))
 
 -- of these tables, how many were replaced by a version and still have rows
 abbrev pub left_at : {T : Type 0} → Version → List (Layer T) → Trees → ℕ
@@ -112,6 +114,6 @@ rights_text v = cond (is_from Four v) READ_RIGHTS.now READ_OLD_RIGHTS.now
 -- why the tables that were replaced aren't counted, though memory is there
 abbrev pub IsUnreadReplaced : {S : Type 0} → Ghosts S → Database → Held S → Type 0
 IsUnreadReplaced g db new =
-    IsUnread g READ_ENTRY_IDS.now id_values db new
+    IsUnread g READ_OLD_ENTRY_IDS.now id_values db new
     ⊎ (IsUnread g READ_MERCHANT_IDS.now id_values db new
     ⊎ IsUnread g READ_RIGHT_IDS.now id_values db new)

@@ -4,9 +4,9 @@ use Rattle.sqlite.specs.Effect.{Database}
 use Rattle.sqlite.specs.Held.{Held, state}
 use Rattle.sqlite.specs.State.{HasCleanDisk}
 use Rattle.sqlite_trees.specs.declared.store.Store.{Ghosts}
-use Rattle.sql_maps.specs.States.{Reads}
-use Rattle.sql_stored.specs.declared.fault.StoreFault.{StoreFault}
-use Rattle.sql_stored.specs.declared.fault.StoreFault.TheVariants.{Store}
+use Rattle.sql_tables.specs.States.{Reads}
+use Rattle.sql_tables.specs.declared.fault.StoreFault.{StoreFault}
+use Rattle.sql_tables.specs.declared.fault.StoreFault.TheVariants.{Store}
 use Rattle.vault_schema.specs.Versions.{schema_of}
 use Rattle.vault_schema.specs.declared.version.Version.{Version}
 

@@ -9,20 +9,24 @@ use Rattle.sqlite.specs.State.{State, HasCleanDisk}
 use Rattle.sqlite.specs.Term.{Term, eval_all, col}
 use Rattle.sqlite.specs.View.{doubt}
 use Rattle.sqlite_trees.specs.declared.store.Store.{Ghosts}
-use Rattle.sql_maps.specs.States.{LeavesNoMore, Reads}
+use Rattle.sql_tables.specs.States.{LeavesNoMore, Reads}
 use Rattle.vault_verdict.specs.Apart.{SharesRowid}
 use Rattle.vault_verdict.specs.Made.{as_card, as_entry}
-use Rattle.vault_verdict.specs.Raw.{card_row, card_values, count_values, entry_values, old_entry_values}
-use Rattle.vault_verdict.specs.Raw.{record_values, version_values}
+use Rattle.vault_tables.specs.CardTexts.{card_row, card_values}
+use Rattle.vault_tables.specs.CountTexts.{count_values}
+use Rattle.vault_tables.specs.EntryTexts.{entry_values}
+use Rattle.vault_tables.specs.EntryTexts.{old_entry_values}
+use Rattle.vault_tables.specs.RecordTexts.{record_values}
+use Rattle.vault_tables.specs.VersionTexts.{version_values}
 use Rattle.vault_verdict.specs.ReadAs.{AreFull, AreMerchantsFull, AreRightsFull, IsFullIn, IsUnreadReplaced}
 use Rattle.vault_verdict.specs.ReadAs.{merchants_in, merchants_text, replaced_in, rights_in, rights_text}
-use Rattle.vault_verdict.specs.Taken.{CardsTaken, EntriesTaken}
+use Rattle.vault_tables.specs.Taken.{CardsTaken, EntriesTaken}
 use Rattle.vault_verdict.specs.declared.behind.Behind.{Behind}
 use Rattle.vault_verdict.specs.declared.first.First.{First}
 use Rattle.vault_verdict.specs.declared.read.WithCards.{WithCards}
-use Rattle.sql_stored.specs.Reading.{AreLonger, AreTable, IsAny, IsUnread}
-use Rattle.sql_stored.specs.declared.fault.StoreFault.{StoreFault}
-use Rattle.sql_stored.specs.declared.fault.StoreFault.TheVariants.{Store}
+use Rattle.sql_tables.specs.Reading.{AreLonger, AreTable, IsAny, IsUnread}
+use Rattle.sql_tables.specs.declared.fault.StoreFault.{StoreFault}
+use Rattle.sql_tables.specs.declared.fault.StoreFault.TheVariants.{Store}
 use Rattle.vault_rules.specs.declared.rows.RawCard.{RawCard}
 use Rattle.vault_rules.specs.Held.{HoldCards}
 use Rattle.vault_rules.specs.Seen.{HasEntries, HasRecords}
@@ -31,11 +35,15 @@ use Rattle.vault_rules.specs.declared.index.Index.{Index}
 use Rattle.vault_rules.specs.declared.records.Records.{Records}
 use Rattle.vault_rules.specs.declared.rows.RawEntry.{RawEntry}
 use Rattle.vault_rules.specs.declared.rows.RawRecord.{RawRecord}
-use Rattle.vault_verdict.specs.declared.replaced.OldEntry.{OldEntry}
-use Rattle.vault_schema.specs.declared.v1.TheConstants as v1
-use Rattle.vault_schema.specs.declared.v2.TheConstants as v2
-use Rattle.vault_tables.specs.Merchants.{merchant_values}
-use Rattle.vault_tables.specs.Rights.{right_values}
+use Rattle.vault_tables.specs.declared.entries.old.OldEntry.{OldEntry}
+use Rattle.vault_tables.specs.declared.counts.TheConstants.{READ_COUNTS}
+use Rattle.vault_tables.specs.declared.entries.old.TheConstants.{READ_OLD_ENTRIES}
+use Rattle.vault_tables.specs.declared.records.TheConstants.{READ_RECORDS}
+use Rattle.vault_tables.specs.declared.versions.TheConstants.{READ_VERSIONS}
+use Rattle.vault_tables.specs.declared.cards.TheConstants.{READ_CARDS}
+use Rattle.vault_tables.specs.declared.entries.TheConstants.{READ_ENTRIES}
+use Rattle.vault_tables.specs.MerchantTexts.{merchant_values}
+use Rattle.vault_tables.specs.RightTexts.{right_values}
 use Rattle.vault_schema.specs.Stands.{newest}
 use Rattle.vault_schema.specs.Layers.{Either}
 use Rattle.vault_schema.specs.Versions.{has_cards, schema_of}
@@ -114,12 +122,12 @@ module _ {S : Type 0} (g : Ghosts S) where
   -- why the cards or the entries that point at them aren't read, though memory is there
   abbrev pub IsUnreadCards : Database → Held S → Type 0
   IsUnreadCards db new =
-      IsUnread g v2.READ_CARDS.now card_values db new ⊎ IsUnread g v2.READ_ENTRIES.now entry_values db new
+      IsUnread g READ_CARDS.now card_values db new ⊎ IsUnread g READ_ENTRIES.now entry_values db new
 
   -- why the entries of a version, or their cards, aren't
   abbrev pub IsUnreadEntries : Version → Database → Held S → Type 0
   IsUnreadEntries v db new =
-      Either (has_cards v) (IsUnreadCards db new) (IsUnread g v1.READ_ENTRIES.now old_entry_values db new)
+      Either (has_cards v) (IsUnreadCards db new) (IsUnread g READ_OLD_ENTRIES.now old_entry_values db new)
 
   -- the cards of a version are taken, with the entries of schema 1, and nothing else is done
   pub record ReadsCards (v : Version) (start : Index) (result : Result WithCards StoreFault)
@@ -145,16 +153,16 @@ module _ {S : Type 0} (g : Ghosts S) where
   abbrev pub IsUnreadOne : Version → Database → Held S → Type 0
   IsUnreadOne v db new =
       IsUnread g (merchants_text v) merchant_values db new
-      ⊎ (IsUnread g v1.READ_COUNTS.now count_values db new
+      ⊎ (IsUnread g READ_COUNTS.now count_values db new
       ⊎ (IsUnreadEntries v db new
-      ⊎ (IsUnread g v1.READ_RECORDS.now record_values db new
+      ⊎ (IsUnread g READ_RECORDS.now record_values db new
       ⊎ (IsUnread g (rights_text v) right_values db new
       ⊎ IsUnreadReplaced g db new))))
 
 -- why 33 is told of a database in a version: a table isn't read, or in one a rowid comes twice
 abbrev pub IsUnreadIn : {S : Type 0} → Ghosts S → Version → Database → Held S → Type 0
 IsUnreadIn g v db new =
-    IsUnread g v1.READ_VERSIONS.now version_values db new
+    IsUnread g READ_VERSIONS.now version_values db new
     ⊎ (IsUnreadOne g v db new ⊎ SharesRowid v db.trees)
 
 -- so in the newest version

@@ -2,9 +2,9 @@
 ghost use Rattle.std.specs.Prelude.{◌≡◌, IsTrue, List};
 ghost use Rattle.std.specs.List.{list_all};
 ghost use Rattle.vault_verdict.specs.Apart.{AreApart, AreByRowid, TellsApart};
-ghost use Rattle.vault_tables.specs.Merchants.{merchant_values};
-ghost use Rattle.vault_tables.specs.Rights.{right_values};
-ghost use Rattle.vault_verdict.specs.Raw.{count_values};
+ghost use Rattle.vault_tables.specs.MerchantTexts.{merchant_values};
+ghost use Rattle.vault_tables.specs.RightTexts.{right_values};
+ghost use Rattle.vault_tables.specs.CountTexts.{count_values};
 ghost use Rattle.vault_verdict.specs.Taken.{HasJudged};
 ghost use Rattle.vault_rules.specs.AllRows.{Rows};
 ghost use Rattle.vault_rules.specs.declared.rows.RawVersion.{RawVersion as VersionRow};

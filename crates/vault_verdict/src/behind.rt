@@ -2,7 +2,7 @@
 ghost use Rattle.std.specs.Prelude.{◌≡◌, IfErr, IfOk, List};
 ghost use Rattle.sqlite.specs.Held.{state};
 ghost use Rattle.sqlite.specs.State.{HasCleanDisk};
-ghost use Rattle.sql_maps.specs.States.{Reads};
+ghost use Rattle.sql_tables.specs.States.{Reads};
 ghost use Rattle.vault_verdict.specs.ReadIn.{ReadsIn};
 ghost use Rattle.vault_verdict.specs.Reading.{AreBehind, AreTaken, IsUnreadOne};
 ghost use Rattle.vault_schema.specs.Versions.{schema_of};
@@ -10,8 +10,7 @@ ghost use Rattle.vault_rules.specs.declared.rows.RawEntry.{RawEntry as EntryRow}
 ghost use Rattle.vault_rules.specs.declared.rows.RawRecord.{RawRecord as RecordRow};
 
 use crate::read;
-use crate::replaced::OldEntry;
-use sql_stored::fault::StoreFault;
+use sql_tables::fault::StoreFault;
 use sqlite::{Alter, Connection};
 use std::alloc::Global;
 use vault_rules::entries::Entries;
@@ -19,6 +18,7 @@ use vault_rules::index::Index;
 use vault_rules::records::Records;
 use vault_rules::rows::RawRight;
 use vault_schema::version::Version;
+use vault_tables::entries::old::OldEntry;
 
 /// The entries and the records, as far as the rules need them; the rights; and of the tables that were
 /// replaced, how many still have rows.

@@ -8,7 +8,7 @@ ghost use Rattle.vault_verdict.specs.Opened.{IsFit, IsNoDamage, IsSoundOf};
 ghost use Rattle.vault_verdict.specs.Opened.{IsWrong};
 ghost use Rattle.vault_verdict.specs.Reading.{IsFull};
 ghost use Rattle.vault_verdict.specs.Sizes.{sizes_of};
-ghost use Rattle.sql_maps.specs.Schema.{no_schema};
+ghost use Rattle.sql_tables.specs.Schema.{no_schema};
 ghost use Rattle.vault_schema.specs.Versions.{newest};
 ghost use Rattle.vault_verdict.specs.Refusals.{IsLeastWhereFull, IsStillVersioned, IsUntouched};
 ghost use Rattle.vault_verdict.specs.Refusals.{LeavesVersionSeen};

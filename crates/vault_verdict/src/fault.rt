@@ -2,7 +2,7 @@
 ghost use Rattle.std.specs.Prelude.{◌≡◌};
 ghost use Rattle.vault_verdict.specs.Faults.{refusal_of};
 
-use sql_stored::fault::StoreFault;
+use sql_tables::fault::StoreFault;
 use std::alloc::AllocError;
 use vault_refusal::refusal::Refusal;
 

@@ -2,12 +2,12 @@
 ghost use Rattle.std.specs.Prelude.{◌≡◌, IfErr, IfOk};
 ghost use Rattle.sqlite.specs.Held.{state};
 ghost use Rattle.sqlite.specs.State.{HasCleanDisk};
-ghost use Rattle.sql_maps.specs.States.{Reads};
+ghost use Rattle.sql_tables.specs.States.{Reads};
 ghost use Rattle.vault_verdict.specs.Reading.{AreFirst, IsUnreadOne};
 ghost use Rattle.vault_schema.specs.Versions.{schema_of};
 
 use crate::read;
-use sql_stored::fault::StoreFault;
+use sql_tables::fault::StoreFault;
 use sqlite::{Alter, Connection};
 use std::alloc::Global;
 use vault_rules::rows::{RawCount, RawMerchant};

@@ -2,17 +2,18 @@
 ghost use Rattle.std.specs.Prelude.{◌≡◌, IfErr, IfOk, List, map, option_map};
 ghost use Rattle.std.specs.List.{filter_map};
 ghost use Rattle.vault_verdict.specs.Made.{as_card, as_entry, own_card};
-ghost use Rattle.vault_verdict.specs.Raw.{card_values, entry_values};
-ghost use Rattle.vault_verdict.specs.Taken.{CardsTaken, EntriesTaken};
+ghost use Rattle.vault_tables.specs.CardTexts.{card_values};
+ghost use Rattle.vault_tables.specs.EntryTexts.{entry_values};
+ghost use Rattle.vault_tables.specs.Taken.{CardsTaken, EntriesTaken};
 ghost use Rattle.vault_rules.specs.declared.rows.RawCard.{RawCard as CardRow};
 ghost use Rattle.vault_rules.specs.declared.rows.RawEntry.{RawEntry as EntryRow};
 
-use crate::replaced::OldEntry;
-use sql_stored::fault::StoreFault;
+use sql_tables::fault::StoreFault;
 use std::alloc::{AllocError, Global};
 use vault_rules::entries::Entries;
 use vault_rules::index::Index;
 use vault_rules::rows::{RawCard, RawEntry};
+use vault_tables::entries::old::OldEntry;
 
 /// The id of an entry's own card, where it has a number.
 fn own_card(older: &OldEntry) -> Option<i64>

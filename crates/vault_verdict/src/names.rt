@@ -1,10 +1,11 @@
 //! Whose tables a file holds.
 ghost use Rattle.std.specs.Prelude.{◌≡◌, map, Decides};
-ghost use Rattle.sql_maps.specs.Schema.{no_schema};
+ghost use Rattle.sql_tables.specs.Schema.{no_schema};
 ghost use Rattle.vault_verdict.specs.Names as spec;
 
 use sqlite_schema::schema::Schema;
-use vault_schema::version::{INDEXES, NAMES, TABLES, is_newest};
+use vault_schema::version::{INDEXES, NAMES, TABLES};
+use vault_tables::versions::is_newest;
 
 /// Whose tables a file holds.
 #[derive(Clone, Copy, PartialEq, Eq)]

@@ -6,50 +6,58 @@ ghost use Rattle.sqlite.specs.Held.{state};
 ghost use Rattle.sqlite.specs.State.{HasCleanDisk, IsUnchanged};
 ghost use Rattle.sqlite.specs.Table.{Table};
 ghost use Rattle.sqlite_schema.specs.declared.schema.Index.{Index as SqlIndex};
-ghost use Rattle.sql_maps.specs.Schema.{grown};
-ghost use Rattle.sql_maps.specs.States.{Reads};
+ghost use Rattle.sql_tables.specs.Schema.{grown};
+ghost use Rattle.sql_tables.specs.States.{Reads};
 ghost use Rattle.vault_verdict.specs.Refusals.{IsStillVersioned};
 ghost use Rattle.vault_verdict.specs.ReadIn.{ReadsIn};
-ghost use Rattle.sql_stored.specs.Reading.{AreTable, IsAny, IsUnread, ReadsTable, TakesTable};
+ghost use Rattle.sql_tables.specs.Reading.{AreTable, IsAny, IsUnread, ReadsTable, TakesTable};
 ghost use Rattle.vault_rules.specs.declared.rows.RawCard.{RawCard as CardRow};
 ghost use Rattle.vault_schema.specs.Layers.{is_from};
-ghost use Rattle.vault_schema.specs.Version1.Tables.{v1};
-ghost use Rattle.vault_schema.specs.Version2.Tables.{v2};
+ghost use Rattle.vault_schema.specs.Schemas.{v1};
+ghost use Rattle.vault_schema.specs.Schemas.{v2};
 ghost use Rattle.vault_schema.specs.Versioned.{HasVersion};
 ghost use Rattle.vault_schema.specs.Versions.{schema_of};
-ghost use Rattle.vault_schema.specs.declared.v1.TheConstants.{READ_COUNTS, READ_ENTRIES, READ_RECORDS};
-ghost use Rattle.vault_schema.specs.declared.v1.TheConstants.{READ_VERSIONS};
-ghost use Rattle.vault_tables.specs.Merchants.{merchant_values};
-ghost use Rattle.vault_tables.specs.Rights.{right_values};
+ghost use Rattle.vault_tables.specs.declared.counts.TheConstants.{READ_COUNTS};
+ghost use Rattle.vault_tables.specs.declared.entries.old.TheConstants.{READ_OLD_ENTRIES};
+ghost use Rattle.vault_tables.specs.declared.records.TheConstants.{READ_RECORDS};
+ghost use Rattle.vault_tables.specs.declared.versions.TheConstants.{READ_VERSIONS};
+ghost use Rattle.vault_tables.specs.MerchantTexts.{merchant_values};
+ghost use Rattle.vault_tables.specs.RightTexts.{right_values};
 ghost use Rattle.vault_verdict.specs.Opened.{AreVersions};
-ghost use Rattle.vault_verdict.specs.Raw.{card_row, count_values, old_entry_values, record_values};
-ghost use Rattle.vault_verdict.specs.Raw.{version_values};
+ghost use Rattle.vault_tables.specs.CardTexts.{card_row};
+ghost use Rattle.vault_tables.specs.CountTexts.{count_values};
+ghost use Rattle.vault_tables.specs.EntryTexts.{old_entry_values};
+ghost use Rattle.vault_tables.specs.RecordTexts.{record_values};
+ghost use Rattle.vault_tables.specs.VersionTexts.{version_values};
 ghost use Rattle.vault_verdict.specs.ReadAs.{AreMerchantsFull, AreRightsFull, IsUnreadReplaced};
 ghost use Rattle.vault_verdict.specs.ReadAs.{left_in as left_spec, merchants_in, merchants_text};
 ghost use Rattle.vault_verdict.specs.ReadAs.{replaced_in, rights_in, rights_text};
 ghost use Rattle.vault_verdict.specs.Reading.{AreOldCards, AreOldFull, IsUnreadCards};
 ghost use Rattle.vault_verdict.specs.Reading.{ReadsCards, TakesEntries};
-ghost use Rattle.vault_verdict.specs.Taken.{CardsTaken, RecordsTaken};
+ghost use Rattle.vault_tables.specs.Taken.{CardsTaken, RecordsTaken};
 
 use crate::made;
-use crate::raws::{CardRows, CountRows, EntryRows, RecordRows, VersionRows};
-use crate::replaced::OldEntry;
-use sql_stored::fault::StoreFault;
-use sql_stored::left::any_left;
-use sql_stored::raws::shown;
-use sql_stored::whole::{read_all, take_all};
+use sql_tables::fault::StoreFault;
+use sql_tables::left::any_left;
+use sql_tables::raws::shown;
+use sql_tables::whole::{read_all, take_all};
 use sqlite::{Alter, Connection};
 use std::alloc::Global;
 use vault_rules::entries::Entries;
 use vault_rules::index::Index;
 use vault_rules::records::Records;
 use vault_rules::rows::{RawCount, RawMerchant, RawRight, RawVersion};
-use vault_schema::v1::READ_VERSIONS;
 use vault_schema::version::Version;
+use vault_tables::cards::Cards;
+use vault_tables::counts::Counts;
+use vault_tables::entries::Entries as EntriesTable;
+use vault_tables::entries::old::OldEntry;
 use vault_tables::merchants::Merchants;
 use vault_tables::merchants::old::OldMerchants;
+use vault_tables::records::Records as RecordsTable;
 use vault_tables::rights::Rights;
 use vault_tables::rights::old::OldRights;
+use vault_tables::versions::{READ_VERSIONS, Versions};
 
 /// The rows of `vault`, in whatever schema that has it.
 pub fn version_rows<S: Alter>(
@@ -74,7 +82,7 @@ pub fn version_rows<S: Alter>(
     // transaction begins
     ensures nothing_new { IsStillVersioned S.Store conn.old conn.new }
 {
-    shown::<S, VersionRows>(alloc, conn, READ_VERSIONS)
+    shown::<S, Versions>(alloc, conn, READ_VERSIONS)
 }
 
 /// The merchants of a version.
@@ -102,7 +110,7 @@ pub(crate) fn counts<S: Alter>(
     ensures { (v : Version) → ReadsTable S.Store READ_COUNTS.now count_values (schema_of v) IsAny (λ t. t 3)
         count_values (λ raw. raw.rowid) result conn.old conn.new }
 {
-    read_all::<S, CountRows>(alloc, conn)
+    read_all::<S, Counts>(alloc, conn)
 }
 
 /// What takes the rows of `records`, in each version.
@@ -114,7 +122,7 @@ pub(crate) fn records<'a, S: Alter>(
         (RecordsTaken start.entry) IsAny (λ t. t 8) record_values (λ raw. raw.rowid) result conn.old
         conn.new }
 {
-    take_all::<S, RecordRows, _>(conn, start)
+    take_all::<S, RecordsTable, _>(conn, start)
 }
 
 /// The rights of a version.
@@ -138,7 +146,7 @@ fn old_entries<S: Alter>(
     alloc: Global,
     conn: &mut Connection<S>,
 ) -> Result<Vec<OldEntry>, StoreFault>
-    ensures { ReadsTable S.Store READ_ENTRIES.now old_entry_values v1 AreOldFull (λ t. t 5)
+    ensures { ReadsTable S.Store READ_OLD_ENTRIES.now old_entry_values v1 AreOldFull (λ t. t 5)
         old_entry_values (λ raw. raw.rowid) result conn.old conn.new }
 {
     read_all::<S, OldEntry>(alloc, conn)
@@ -165,7 +173,7 @@ fn first_cards<'a, S: Alter>(
         × AreOldCards (state S.Store conn.old).now it.olders.items raws) }
     // in schema 1, on an honest disk, Store comes only where the entries aren't read
     ensures refused { HasCleanDisk (state S.Store conn.new) → (state S.Store conn.old).now.schema ≡ v1
-        → IfErr result (λ e. e ≡ StoreFault.Store → IsUnread S.Store READ_ENTRIES.now old_entry_values
+        → IfErr result (λ e. e ≡ StoreFault.Store → IsUnread S.Store READ_OLD_ENTRIES.now old_entry_values
         (state S.Store conn.old).now conn.new) }
 {
     let olders = old_entries(alloc, conn)?;
@@ -195,7 +203,7 @@ fn later_cards<'a, S: Alter>(
         → IfErr result (λ e. e ≡ StoreFault.Store
         → IsUnreadCards S.Store (state S.Store conn.old).now conn.new) }
 {
-    let index = take_all::<S, CardRows, _>(conn, start)?;
+    let index = take_all::<S, Cards, _>(conn, start)?;
     Ok(WithCards {
         olders: Vec::new(alloc),
         index,
@@ -229,7 +237,7 @@ pub(crate) fn entries<'a, S: Alter>(
     ensures { TakesEntries S.Store version olders.now start.entry result conn.old conn.new }
 {
     if version.is_from(Version::Two) {
-        take_all::<S, EntryRows, _>(conn, start)
+        take_all::<S, EntriesTable, _>(conn, start)
     } else {
         made::entries(alloc, olders, start)
     }

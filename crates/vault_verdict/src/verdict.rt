@@ -21,13 +21,13 @@ use crate::fault::OpenFault;
 use crate::first::{First, read_first};
 use crate::judge::{judge, other_in};
 use crate::read::{self, WithCards, version_rows};
-use crate::replaced::OldEntry;
 use crate::sizes::Sizes;
 use sqlite::{Alter, Connection};
 use std::alloc::Global;
 use vault_rules::index::Index;
 use vault_rules::rows::RawVersion;
 use vault_schema::version::{NEWEST, Version};
+use vault_tables::entries::old::OldEntry;
 
 /// A vault that was judged to be sound: how much it holds, and the entries of schema 1 as they stand there.
 #[derive(Drop)]

@@ -14,7 +14,7 @@ use crate::read::version_rows;
 use sqlite::{Alter, Connection};
 use std::alloc::Global;
 use vault_rules::rows::RawVersion;
-use vault_schema::v1::shape::has_version;
+use vault_tables::versions::has_version;
 
 /// The refusal by another version that these rows say; else this one.
 fn told_by(versions: &[RawVersion], refusal: OpenFault) -> OpenFault

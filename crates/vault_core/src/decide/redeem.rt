@@ -2,7 +2,8 @@
 ghost use Rattle.std.specs.Prelude.{◌≡◌, true};
 ghost use Rattle.vault_refusal.specs.Refusal.{number_of};
 ghost use Rattle.vault_core.specs.Changes.{Decides, RefusesBy, RefusesQuietly, YieldsAt};
-ghost use Rattle.vault_core.specs.Named.{command_by, denies};
+ghost use Rattle.vault_core.specs.Parts.{command_by};
+ghost use Rattle.vault_core.specs.Named.{denies};
 ghost use Rattle.vault_core.specs.Redeem.{denial, gift, redemption};
 ghost use Rattle.vault_core.specs.Vault.{state_of, time_at};
 

@@ -1,6 +1,6 @@
 //! Tokens whose lives are ended, and whose card numbers are purged.
 ghost use Rattle.vault_core.specs.Changes.{Decides, RefusesQuietly};
-ghost use Rattle.vault_core.specs.Named.{command_by};
+ghost use Rattle.vault_core.specs.Parts.{command_by};
 
 use crate::changes::Changes;
 use crate::command::{Command, TokenCommand};

@@ -1,7 +1,7 @@
 //! Tokens that are asked about, and counts.
 ghost use Rattle.vault_core.specs.Changes.{Decides, RefusesQuietly, no_changes};
 ghost use Rattle.std.specs.Prelude.{◌≡◌};
-ghost use Rattle.vault_core.specs.Named.{command_by};
+ghost use Rattle.vault_core.specs.Parts.{command_by};
 
 use crate::changes::Changes;
 use crate::command::{Command, TokenCommand};

@@ -2,7 +2,7 @@
 ghost use Rattle.std.specs.Prelude.{◌≡◌, IsSome};
 ghost use Rattle.vault_core.specs.Changes.{Decides, RefusesQuietly, Yields, no_changes, record_changes};
 ghost use Rattle.vault_core.specs.Repeats.{is_repeat as is_repeat_lem};
-ghost use Rattle.vault_core.specs.Table.{command_of};
+ghost use Rattle.vault_core.specs.Parts.{command_of};
 ghost use Rattle.vault_core.specs.Tokens.{new_request as new_request_lem};
 ghost use Rattle.vault_core.specs.Vault.{Vault, Merchant, life_for};
 ghost use Rattle.vault_core.specs.Window.{ShowsMerchant};

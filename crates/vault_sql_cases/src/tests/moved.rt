@@ -4,20 +4,22 @@ use super::steps::{TestDisk, all_done, done, is_told, no_files};
 use super::stops::{Trial, is_whole_where_stopped};
 use sqlite::Files;
 use std::alloc::Global;
-use vault_schema::v1::{
-    CREATE_COUNTS, CREATE_ENTRIES, CREATE_ENTRIES_NUMBER, CREATE_MERCHANTS, CREATE_RECORDS,
-    CREATE_RIGHTS, CREATE_VAULT,
-};
+use vault_tables::counts::CREATE_COUNTS;
+use vault_tables::entries::old::{CREATE_OLD_ENTRIES, CREATE_OLD_ENTRIES_NUMBER};
+use vault_tables::merchants::old::CREATE_OLD_MERCHANTS;
+use vault_tables::records::CREATE_RECORDS;
+use vault_tables::rights::old::CREATE_OLD_RIGHTS;
+use vault_tables::versions::CREATE_VAULT;
 
 /// What makes the tables of schema 1.
 const FIRST_TABLES: [&str; 7] = [
     CREATE_VAULT,
-    CREATE_MERCHANTS,
+    CREATE_OLD_MERCHANTS,
     CREATE_COUNTS,
-    CREATE_ENTRIES,
-    CREATE_ENTRIES_NUMBER,
+    CREATE_OLD_ENTRIES,
+    CREATE_OLD_ENTRIES_NUMBER,
     CREATE_RECORDS,
-    CREATE_RIGHTS,
+    CREATE_OLD_RIGHTS,
 ];
 
 /// The rows of two merchants: a number under two tokens of the one and a token of the other, and a purged

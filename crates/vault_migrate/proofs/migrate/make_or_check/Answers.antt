@@ -6,9 +6,9 @@ use Rattle.vault_migrate.proofs.migrate.make_or_check.Given.{Over}
 use Rattle.vault_migrate.proofs.migrate.make_or_check.Goals.{After-check}
 use Rattle.vault_migrate.proofs.migrate.make_or_check.Goals as goal
 use Rattle.sqlite.specs.State.{HasCleanDisk}
-use Rattle.sql_maps.specs.Transactions.{KeepsDoubts}
-use Rattle.sql_maps.specs.States.{LeavesNoMore}
-use Rattle.vault_rows.specs.declared.schema.SchemaFault.TheVariants.{Taken}
+use Rattle.sql_tables.specs.Transactions.{KeepsDoubts}
+use Rattle.sql_tables.specs.States.{LeavesNoMore}
+use Rattle.vault_steps.specs.declared.schema.SchemaFault.TheVariants.{Taken}
 use Rattle.vault_verdict.specs.Opened.{LeavesFound}
 
 -- a database with tables is checked as it was found

@@ -3,7 +3,7 @@ use Rattle.sqlite.specs.Held.{state}
 use Rattle.sqlite.specs.State.{HasCleanDisk}
 use Rattle.vault_migrate.proofs.Moving.{each_err, holds_sound}
 use Rattle.vault_migrate.proofs.migrate.move_up.Goals as goal
-use Rattle.vault_schema.proofs.Versions.{last_commit}
+use Rattle.vault_schema.proofs.VersionLemmas.{last_commit}
 use Rattle.vault_schema.specs.Stands.{lookups_of}
 use Rattle.vault_schema.specs.Versions.{next_of}
 

@@ -1,8 +1,9 @@
 use Rattle.std.proofs.Common.{arith, sym}
 use Rattle.sqlite.specs.Held.{state}
 use Rattle.sqlite.specs.State.{HasCleanDisk}
-use Rattle.sql_maps.proofs.Calls.{reads_then}
-use Rattle.vault_rows.proofs.Calls.{reads_as, still_held}
+use Rattle.sql_tables.proofs.Calls.{reads_then}
+use Rattle.vault_tables.proofs.Told.{reads_as}
+use Rattle.vault_sql.proofs.Calls.{still_held}
 use Rattle.vault_sql.proofs.tokens.dead_from.Goals as goal
 
 pub returns : goal.returns

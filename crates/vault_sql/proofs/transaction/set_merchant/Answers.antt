@@ -8,11 +8,11 @@ returns-in-Some g c = record {
   done = rw (c.in-Some.is) (spared c.args.m.now c.args.x.now c.in-Some.was (search rules));
 }
 
-pub returns-in_ok-put_merchant-in-Some-2 : goal.returns-in_ok-put_merchant-in-Some-2
-returns-in_ok-put_merchant-in-Some-2 g c = record {
+pub returns-in_ok-put-in-Some-2 : goal.returns-in_ok-put-in-Some-2
+returns-in_ok-put-in-Some-2 g c = record {
   same_reference = cc;
   done =
-      makes_as (rw (c.merchant_text.ensures) at c.in_ok-put_merchant-in-Some-2.ensures.done)
+      makes_as (rw (c.merchant_text.ensures) at c.in_ok-put-in-Some-2.ensures.done)
       (λ h known. tt);
 }
 

@@ -1,15 +1,15 @@
 use Rattle.std.proofs.Common.{◌≡◌, sym, subst, arith, rules, inl, inr, OnOk}
 use Rattle.sqlite.specs.Held.{state}
 use Rattle.sqlite.specs.State.{HasCleanDisk}
-use Rattle.sql_maps.proofs.Calls.{as_ok, on_ok, steps_then}
+use Rattle.sql_tables.proofs.Calls.{as_ok, on_ok, steps_then}
 use Rattle.vault_core.specs.Changes.{Fit, plus}
 use Rattle.vault_core.specs.Sound.{Sound}
 use Rattle.vault_core.specs.Vault.{Vault}
 use Rattle.vault_schema.specs.Versions.{Lookups}
-use Rattle.vault_cards.specs.Calls.{IsWithin}
+use Rattle.vault_tables.specs.Calls.{IsWithin}
 use Rattle.vault_schema.specs.Holds.{Holds, LeavesEither}
 use Rattle.vault_schema.specs.Stands.{lookups_of}
-use Rattle.vault_rows.proofs.Calls.{begun_over, held_after, ours}
+use Rattle.vault_tables.proofs.Held.{begun_over, held_after, ours}
 use Rattle.vault_schema.specs.Left.{last_commit}
 use Rattle.vault_schema.specs.Stands.{newest}
 use Rattle.vault_sql.proofs.WrittenPlus.{has_room, written_plus}

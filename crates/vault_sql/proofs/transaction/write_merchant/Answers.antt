@@ -1,4 +1,4 @@
-use Rattle.vault_cards.proofs.Calls.{makes_then}
+use Rattle.vault_tables.proofs.Calls.{makes_then}
 use Rattle.vault_sql.proofs.transaction.write_merchant.Goals as goal
 
 pub returns : goal.returns

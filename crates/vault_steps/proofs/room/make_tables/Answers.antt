@@ -1,7 +1,7 @@
 use Rattle.std.proofs.Common.{arith}
 use Rattle.sqlite.specs.Held.{state}
 use Rattle.sqlite.specs.State.{HasCleanDisk}
-use Rattle.sql_maps.proofs.Calls.{on_ok, steps_then}
+use Rattle.sql_tables.proofs.Calls.{on_ok, steps_then}
 use Rattle.vault_steps.proofs.CardStep.{tabled}
 use Rattle.vault_steps.proofs.room.make_tables.Goals as goal
 

@@ -2,9 +2,9 @@ use Rattle.std.proofs.Common.{◌≡◌, sym, arith, inl, inr, subst, rules, OnO
 use Rattle.sqlite.specs.Held.{state}
 use Rattle.sqlite.specs.State.{HasCleanDisk}
 use Rattle.sqlite.specs.Tree.{Trees}
-use Rattle.sql_maps.proofs.Calls.{as_ok, on_ok}
+use Rattle.sql_tables.proofs.Calls.{as_ok, on_ok}
 use Rattle.vault_schema.specs.Versions.{AreOf, HoldsOf, Lookups, WithinOf, next_of}
-use Rattle.vault_schema.proofs.Versions.{begun, committed, last_commit, wrote}
+use Rattle.vault_schema.proofs.VersionLemmas.{begun, committed, last_commit, wrote}
 use Rattle.vault_steps.specs.Entries.{AreFor, joined}
 use Rattle.vault_steps.proofs.upgrade.upgrade.Given.{Over}
 use Rattle.vault_steps.proofs.upgrade.upgrade.Goals as goal

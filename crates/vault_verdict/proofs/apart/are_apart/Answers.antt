@@ -4,9 +4,12 @@ use Rattle.vault_verdict.proofs.RisingRowids.{rising_apart}
 use Rattle.vault_verdict.proofs.apart.are_apart.Goals as goal
 use Rattle.vault_verdict.specs.Apart.{TellsApart}
 use Rattle.vault_verdict.specs.Taken.{HasJudged}
-use Rattle.vault_tables.specs.Merchants.{merchant_values}
-use Rattle.vault_tables.specs.Rights.{right_values}
-use Rattle.vault_verdict.specs.Raw.{card_row, count_values, entry_values, record_values}
+use Rattle.vault_tables.specs.MerchantTexts.{merchant_values}
+use Rattle.vault_tables.specs.RightTexts.{right_values}
+use Rattle.vault_tables.specs.CardTexts.{card_row}
+use Rattle.vault_tables.specs.CountTexts.{count_values}
+use Rattle.vault_tables.specs.EntryTexts.{entry_values}
+use Rattle.vault_tables.specs.RecordTexts.{record_values}
 use Rattle.vault_rules.specs.declared.card_rows.Cards.{Cards}
 use Rattle.vault_rules.specs.declared.entries.Entries.{Entries}
 use Rattle.vault_rules.specs.declared.index.Index.{Index}

@@ -1,9 +1,9 @@
 use Rattle.std.proofs.Common.{arith, inl, inr, rules}
-use Rattle.vault_verdict.proofs.Results.{passed}
-use Rattle.sql_stored.proofs.Streamed.{after}
+use Rattle.vault_tables.proofs.Taking.{passed}
+use Rattle.sql_tables.proofs.Streamed.{after}
 use Rattle.vault_verdict.proofs.behind.read_behind.Goals as goal
-use Rattle.vault_tables.specs.Rights.{right_values}
-use Rattle.sql_stored.specs.Reading.{IsUnread}
+use Rattle.vault_tables.specs.RightTexts.{right_values}
+use Rattle.sql_tables.specs.Reading.{IsUnread}
 use Rattle.vault_verdict.specs.ReadAs.{IsUnreadReplaced, rights_text}
 
 pub returns-in_err-rights-clause-refused : goal.returns-in_err-rights-clause-refused

@@ -3,11 +3,12 @@ use Rattle.sqlite.specs.Effect.{Database}
 use Rattle.sqlite.specs.Held.{state}
 use Rattle.sqlite.specs.State.{HasCleanDisk}
 use Rattle.vault_verdict.proofs.Joined.{failed_both, none_if, same_both, taken_both, told_both}
-use Rattle.vault_verdict.proofs.Results.{if_err, passed}
+use Rattle.vault_verdict.proofs.Results.{if_err}
+use Rattle.vault_tables.proofs.Taking.{passed}
 use Rattle.vault_verdict.proofs.behind.taken.Goals as goal
-use Rattle.vault_verdict.specs.Raw.{record_values}
-use Rattle.sql_stored.specs.Reading.{IsUnread}
-use Rattle.vault_schema.specs.declared.v1.TheConstants.{READ_RECORDS}
+use Rattle.vault_tables.specs.RecordTexts.{record_values}
+use Rattle.sql_tables.specs.Reading.{IsUnread}
+use Rattle.vault_tables.specs.declared.records.TheConstants.{READ_RECORDS}
 
 pub returns-in_err-entries : goal.returns-in_err-entries
 returns-in_err-entries g c = record {

@@ -1,10 +1,10 @@
 use Rattle.std.proofs.Common.{arith, inl, inr, rules}
-use Rattle.vault_verdict.proofs.Results.{passed}
-use Rattle.sql_stored.proofs.Streamed.{after}
+use Rattle.vault_tables.proofs.Taking.{passed}
+use Rattle.sql_tables.proofs.Streamed.{after}
 use Rattle.vault_verdict.proofs.first.read_first.Goals as goal
-use Rattle.vault_verdict.specs.Raw.{count_values}
-use Rattle.sql_stored.specs.Reading.{IsUnread}
-use Rattle.vault_schema.specs.declared.v1.TheConstants.{READ_COUNTS}
+use Rattle.vault_tables.specs.CountTexts.{count_values}
+use Rattle.sql_tables.specs.Reading.{IsUnread}
+use Rattle.vault_tables.specs.declared.counts.TheConstants.{READ_COUNTS}
 
 pub returns-in_err-counts-clause-refused : goal.returns-in_err-counts-clause-refused
 returns-in_err-counts-clause-refused g c clean has =

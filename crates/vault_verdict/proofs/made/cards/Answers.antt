@@ -1,9 +1,9 @@
 use Rattle.std.proofs.Common.{◌≡◌, ◌<◌, ◌∙◌, ◌∷◌, ◌+◌, ◌++◌, List, [], arith, length, map, sym}
 use Rattle.std.proofs.Common.{subst, take}
 use Rattle.std.specs.List.{filter_map}
-use Rattle.vault_verdict.specs.Raw.{card_values}
+use Rattle.vault_tables.specs.CardTexts.{card_values}
 use Rattle.vault_verdict.specs.Made.{as_card}
-use Rattle.vault_verdict.specs.Taken.{CardsTaken}
+use Rattle.vault_tables.specs.Taken.{CardsTaken}
 use Rattle.vault_verdict.proofs.More.{card_more, none_more, of_all}
 use Rattle.vault_verdict.proofs.made.cards.Goals.{in-Some+in_ok-take, in_default}
 use Rattle.vault_verdict.proofs.made.cards.Goals as goal

@@ -1,8 +1,8 @@
 use Rattle.std.proofs.Common.{◌≡◌, List, map, take}
 use Rattle.std.specs.List.{filter_map}
 use Rattle.vault_verdict.specs.Made.{as_card}
-use Rattle.vault_verdict.specs.Raw.{card_values}
-use Rattle.vault_verdict.specs.Taken.{CardsTaken}
+use Rattle.vault_tables.specs.CardTexts.{card_values}
+use Rattle.vault_tables.specs.Taken.{CardsTaken}
 use Rattle.vault_rules.specs.declared.rows.RawCard.{RawCard}
 use Rattle.vault_verdict.proofs.made.cards.Given as goal
 

@@ -1,6 +1,6 @@
 use Rattle.std.proofs.Common.{◌<◌, ◌++◌, ◌∷◌, [], ap, arith, length, map, sym, take, ◌∙◌}
 use Rattle.std.proofs.lemmas.List.{map-append, take_more}
-use Rattle.vault_verdict.specs.Raw.{entry_values}
+use Rattle.vault_tables.specs.EntryTexts.{entry_values}
 use Rattle.vault_verdict.specs.Made.{as_entry}
 use Rattle.vault_verdict.proofs.More.{of_all}
 use Rattle.vault_verdict.proofs.made.entries.Goals as goal

@@ -1,7 +1,7 @@
 use Rattle.std.proofs.Common.{◌≡◌, List, map, take}
 use Rattle.vault_verdict.specs.Made.{as_entry}
-use Rattle.vault_verdict.specs.Raw.{entry_values}
-use Rattle.vault_verdict.specs.Taken.{EntriesTaken}
+use Rattle.vault_tables.specs.EntryTexts.{entry_values}
+use Rattle.vault_tables.specs.Taken.{EntriesTaken}
 use Rattle.vault_rules.specs.declared.rows.RawEntry.{RawEntry}
 use Rattle.vault_verdict.proofs.made.entries.Given as goal
 

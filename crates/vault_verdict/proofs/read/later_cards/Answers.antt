@@ -1,6 +1,6 @@
 use Rattle.std.proofs.Common.{inl}
 use Rattle.vault_verdict.proofs.Joined.{failed_as, none_if}
-use Rattle.vault_verdict.proofs.Results.{passed}
+use Rattle.vault_tables.proofs.Taking.{passed}
 use Rattle.vault_verdict.proofs.read.later_cards.Goals as goal
 
 pub returns-in_err-index-clause-reads : goal.returns-in_err-index-clause-reads

@@ -4,20 +4,20 @@ use Rattle.sqlite.specs.State.{HasCleanDisk}
 use Rattle.sqlite.specs.Tree.{Trees}
 use Rattle.vault_schema.proofs.TablesBehind.{behind, indexes_behind, schema_is}
 use Rattle.vault_verdict.proofs.Joined.{both_told, failed_as, failed_then, from_start, in_version, none_if}
-use Rattle.sql_maps.proofs.Calls.{reads_then}
-use Rattle.sql_maps.specs.Schema.{grown}
-use Rattle.sql_maps.specs.States.{Reads}
-use Rattle.sql_stored.specs.declared.fault.StoreFault.{StoreFault}
-use Rattle.vault_schema.specs.Version1.Tables.{v1}
+use Rattle.sql_tables.proofs.Calls.{reads_then}
+use Rattle.sql_tables.specs.Schema.{grown}
+use Rattle.sql_tables.specs.States.{Reads}
+use Rattle.sql_tables.specs.declared.fault.StoreFault.{StoreFault}
+use Rattle.vault_schema.specs.Schemas.{v1}
 use Rattle.vault_verdict.proofs.read.replaced.Given.{Over}
 use Rattle.vault_schema.specs.declared.version.Version.{Version}
-use Rattle.vault_verdict.proofs.Results.{passed}
+use Rattle.vault_tables.proofs.Taking.{passed}
 use Rattle.vault_verdict.proofs.read.replaced.Goals.{After-any_left-3}
 use Rattle.vault_verdict.proofs.read.replaced.Goals as goal
-use Rattle.sql_stored.specs.Scans.{id_values}
-use Rattle.sql_stored.specs.Reading.{any_left}
+use Rattle.sql_tables.specs.Scans.{id_values}
+use Rattle.sql_tables.specs.Reading.{any_left}
 use Rattle.vault_verdict.specs.ReadAs.{left_in, replaced_in}
-use Rattle.sql_stored.specs.Reading.{IsUnread}
+use Rattle.sql_tables.specs.Reading.{IsUnread}
 use Rattle.vault_tables.specs.declared.merchants.old.TheConstants.{READ_MERCHANT_IDS}
 use Rattle.vault_tables.specs.declared.rights.old.TheConstants.{READ_RIGHT_IDS}
 

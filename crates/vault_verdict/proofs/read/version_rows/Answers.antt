@@ -1,6 +1,6 @@
 use Rattle.sqlite.specs.Held.{state}
-use Rattle.sql_maps.proofs.Reading.{reads_all}
-use Rattle.vault_schema.proofs.Version1.Texts.{read_version_is}
+use Rattle.sql_tables.proofs.Reading.{reads_all}
+use Rattle.vault_tables.specs.VersionTexts.{read_version_is}
 use Rattle.vault_verdict.proofs.Results.{if_ok, quiet_where}
 use Rattle.vault_verdict.proofs.Versioned.{is_versioned, version_of}
 use Rattle.vault_verdict.proofs.read.version_rows.Goals as goal

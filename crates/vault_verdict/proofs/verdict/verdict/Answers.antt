@@ -17,7 +17,7 @@ use Rattle.vault_verdict.specs.ReadAs.{IsFullIn}
 use Rattle.vault_verdict.specs.Reading.{AreCardsIn, IsUnreadIn, IsUnreadOne}
 use Rattle.vault_verdict.specs.Versions.{other_than}
 use Rattle.vault_verdict.specs.declared.fault.OpenFault.{OpenFault}
-use Rattle.vault_verdict.specs.declared.replaced.OldEntry.{OldEntry}
+use Rattle.vault_tables.specs.declared.entries.old.OldEntry.{OldEntry}
 use Rattle.vault_verdict.specs.declared.verdict.Judged.{Judged}
 use Rattle.vault_rules.specs.AllRows.{Rows}
 

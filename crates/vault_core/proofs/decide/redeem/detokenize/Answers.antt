@@ -1,6 +1,6 @@
 use Rattle.std.proofs.Common.{ap, sym, subst, ◌∙◌}
 use Rattle.vault_core.specs.Changes.{Yields}
-use Rattle.vault_core.specs.Named.{token_command}
+use Rattle.vault_core.specs.Parts.{token_command}
 use Rattle.vault_core.specs.Outcome.{Outcome}
 use Rattle.vault_core.specs.Vault.{entitled}
 use Rattle.vault_core.specs.declared.right.Right.TheVariants as right

@@ -5,7 +5,7 @@ use Rattle.vault_core.specs.Dead.{dead_tokens}
 use Rattle.vault_core.specs.Vault.{Vault}
 use Rattle.vault_core.specs.Window.{moment_at}
 use Rattle.vault_core.specs.declared.limit.TheConstants.{MOST_TOKENS}
-use Rattle.vault_rows.proofs.Dead.{all_dead, tokens_read}
+use Rattle.vault_sql.proofs.Dead.{all_dead, tokens_read}
 use Rattle.vault_sql.specs.Held.{AreHeld}
 use Rattle.vault_sql.specs.Places.{IsPast, first_place}
 use Rattle.vault_sql.proofs.Places.{first_past, still_held}

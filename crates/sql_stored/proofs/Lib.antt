@@ -1,4 +1,0 @@
-pub mod Readings
-pub mod Scans
-pub mod Stated
-pub mod Streamed

@@ -1,0 +1,14 @@
+pub mod Codes
+pub mod KeptTexts
+pub mod Keyed
+pub mod Maps
+pub mod Places
+pub mod Reading
+pub mod Rows
+pub mod Scans
+pub mod Schema
+pub mod Shapes
+pub mod States
+pub mod Texts
+pub mod Transactions
+pub mod Values

@@ -1,4 +1,0 @@
--- Schema 1.
-pub mod Codes
-pub mod Making
-pub mod Texts

@@ -1,6 +1,0 @@
--- Schema 2.
-pub mod Codes
-pub mod Counting
-pub mod Joining
-pub mod Making
-pub mod Texts

@@ -1,4 +1,0 @@
--- Schema 1.
-pub mod Claims
-pub mod Rows
-pub mod Tables

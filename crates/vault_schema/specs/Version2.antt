@@ -1,4 +1,0 @@
--- Schema 2.
-pub mod Joined
-pub mod Rows
-pub mod Tables

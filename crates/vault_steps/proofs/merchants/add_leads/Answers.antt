@@ -1,8 +1,0 @@
-use Rattle.vault_steps.proofs.Inside.{four_texts}
-use Rattle.vault_steps.proofs.MerchantTables.{led}
-use Rattle.vault_steps.proofs.merchants.add_leads.Goals as goal
-
-pub returns : goal.returns
-returns g c =
-    four_texts c.in_ok-step.ensures c.in_ok-step-2.ensures c.in_ok-step-3.ensures c.step-4.ensures
-    (λ h base w. led w)

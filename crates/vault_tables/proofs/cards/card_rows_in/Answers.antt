@@ -1,0 +1,10 @@
+use Rattle.vault_tables.proofs.Places.{card_is_at}
+use Rattle.vault_tables.proofs.Calls.{rows_tell}
+use Rattle.vault_tables.proofs.Shown.{shows_card}
+use Rattle.vault_tables.proofs.cards.card_rows_in.Goals as goal
+
+pub returns : goal.returns
+returns g c =
+    rows_tell g.S.Store card_is_at c.rows_in.ensures.goes_on _ c.rows_in.ensures.told c.rows_in.ensures.kept
+    (λ v t rows it shown. shows_card v t _ _ it rows.items c.args.m.now c.args.number.now
+    (rw (c.params-to_sql.ensures, c.params-to_sql-2.ensures) at shown))

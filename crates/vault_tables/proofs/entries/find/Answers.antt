@@ -1,0 +1,11 @@
+use Rattle.std.proofs.Common.{refl}
+use Rattle.sql_tables.proofs.Calls.{if_ok}
+use Rattle.vault_tables.proofs.entries.find.Goals as goal
+
+pub returns : goal.returns
+returns g c = record {
+  reads = c.find.ensures.reads;
+  told = λ clean. if_ok c.find.result _ _ (c.find.ensures.told clean) (λ found told t stands.
+      told t (c.args.m.now, c.args.token.now) stands
+      (rw (c.params-to_sql.ensures, c.params-to_sql-2.ensures) refl));
+}
