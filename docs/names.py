@@ -25,9 +25,9 @@ NUMBERS = "no one two three four five six seven eight nine ten eleven twelve thi
 
 
 def tracked():
-    """The repository's files, by their paths from its top."""
+    """The repository's files, by their paths from its top, without what hasn't landed."""
     listed = subprocess.run(["git", "ls-files"], cwd=ROOT, stdout=subprocess.PIPE, check=True).stdout.decode()
-    return [line for line in listed.split("\n") if (ROOT / line).is_file()]
+    return [line for line in listed.split("\n") if (ROOT / line).is_file() and not line.startswith("wip/")]
 
 
 def read(path):
