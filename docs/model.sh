@@ -48,10 +48,11 @@ case ${1:-} in
     ;;
 *)
     for wanted in "$@"; do
-        places=$(definitions | grep "^$wanted ") || {
+        places=$(definitions | WANTED=$wanted awk '$1 == ENVIRON["WANTED"]')
+        if [ -z "$places" ]; then
             echo "no public definition of specs is named $wanted" >&2
             exit 1
-        }
+        fi
         printf '%s\n' "$places" | while read -r _ file line _; do
             echo "$file:$line"
             shown "$file" "$line"
