@@ -1,4 +1,5 @@
-//! Tables of SQLite as finite maps, and their rows as values of Rust, in any schema: nothing here knows a vault.
+//! Tables of SQLite as finite maps, and their rows as values of Rust, in any schema.
+//! Nothing here knows a vault.
 #![tactic(auto)]
 
 pub mod columns;

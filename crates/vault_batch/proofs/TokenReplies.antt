@@ -1,5 +1,5 @@
 -- What a request for a token is replied to.
-use Rattle.std.proofs.Common.{◌≡◌, ℕ, sym, subst, inl, inr}
+use Rattle.std.proofs.Common.{◌≡◌, sym, subst, inl, inr}
 use Rattle.std.specs.Prelude.{◌⊎◌, Option, Some, None, Bool, true, false, Ok, Err, if◌then◌else◌, ◌==◌, not}
 use Rattle.std.specs.Option.{option_map_or}
 use Rattle.std.specs.Str.Parse.{digits_value}

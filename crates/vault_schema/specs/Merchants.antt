@@ -1,4 +1,4 @@
--- The table of merchants: its columns, its indexes, and how its rows stand for lives; now, and before schema 3.
+-- The table of merchants, now and before schema 3: its columns, indexes, and how its rows stand for lives.
 use Rattle.std.specs.Prelude.{List, [], ◌∷◌, codes, pos, ◌≡◌}
 use Rattle.sqlite.specs.Kind.TheVariants.{Integer, Text as Words}
 use Rattle.sqlite.specs.Order.{Row, column}

@@ -40,8 +40,8 @@ pub record MakesFirst : Type 0 where
       (treeless merchants)
   pub for_counts : MakesTable (with_tables no_schema (vault ∷ merchants ∷ [])) CREATE_COUNTS.now
       (treeless counts)
-  pub for_entries : MakesTable (with_tables no_schema (vault ∷ merchants ∷ counts ∷ [])) CREATE_OLD_ENTRIES.now
-      (treeless entries)
+  pub for_entries : MakesTable (with_tables no_schema (vault ∷ merchants ∷ counts ∷ []))
+      CREATE_OLD_ENTRIES.now (treeless entries)
   pub for_number : MakesIndex (with_tables no_schema (vault ∷ merchants ∷ counts ∷ entries ∷ []))
       CREATE_OLD_ENTRIES_NUMBER.now 3 (table_of entries) number_index
   pub for_records : MakesTable with_number CREATE_RECORDS.now (treeless records)

@@ -54,9 +54,9 @@ pub ended : {h : Lookups} {base : Database} {a b c d e : State} (w : WithinOf Th
     → WithinOf Four h base e
 ended {h = h} {a = a} w run =
     closed_over Four Three a w.is.stand.rows (tt, (tt, w.is.stand.defaults.1.1)) (λ j. j)
-    (replaced old_right_table rights_in_fourth endless older h.rights 3 4 refl (opened Three w w.is.stand.rows)
-    (still_endless h w.is.stand.defaults.1.0) fourth_texts refl run (λ rows are. are) (λ rows none. none)
-    (λ rows are. are) (λ rows is. is) (λ id k x. refl))
+    (replaced old_right_table rights_in_fourth endless older h.rights 3 4 refl
+    (opened Three w w.is.stand.rows) (still_endless h w.is.stand.defaults.1.0) fourth_texts refl run
+    (λ rows are. are) (λ rows none. none) (λ rows are. are) (λ rows is. is) (λ id k x. refl))
 
 -- ---- what the rows of rights tell, in whatever version
 

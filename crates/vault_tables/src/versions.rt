@@ -1,5 +1,5 @@
-//! The versions: the table that says which one a file is in, what makes and says a later one, and the schema of
-//! each as a database shows it.
+//! The versions: the table that says which one a file is in, and what makes and says a later one.
+//! The schema of each, as a database shows it.
 ghost use Rattle.std.specs.Prelude.{◌≡◌, Decides, IfSome, IfNone};
 ghost use Rattle.vault_schema.specs.Schemas.{v1, v2, v3, v4};
 ghost use Rattle.vault_schema.specs.Versioned.{HasVersion};

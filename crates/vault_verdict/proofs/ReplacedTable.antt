@@ -15,7 +15,7 @@ use Rattle.vault_schema.specs.declared.version.Version.{Version}
 use Rattle.vault_verdict.proofs.Left.{none_left}
 use Rattle.vault_verdict.proofs.Permuted.{apart_as}
 
--- what is read of the older one, the tree of the newer one, and how a row that was read lists its columns in each
+-- what is read of the older one, the tree of the newer one, and how a row read lists its columns in each
 pub record Replaced (R : Type 0) : Type 0 where
   pub since : Version
   pub older : Trees → List Row

@@ -1,6 +1,6 @@
 -- What holds of a result, from what holds of it.
 use Rattle.std.proofs.Common.{◌≡◌, ◌≢◌, ◌∙◌, refl, subst, sym, ℕ, ℤ, Ok, Err, Result, IfOk, IfErr, IsErrAnd}
-use Rattle.std.proofs.Common.{OnOk, ◌+◌, ◌-◌, ◌<◌, ◌^◌, arith}
+use Rattle.std.proofs.Common.{OnOk}
 use Rattle.sqlite.specs.Schema.{Schema}
 use Rattle.sqlite.specs.State.{State}
 use Rattle.sql_tables.specs.States.{Reads}

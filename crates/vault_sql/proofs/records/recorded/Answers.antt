@@ -1,7 +1,7 @@
-use Rattle.std.proofs.Common.{◌≡◌}
 use Rattle.vault_sql.proofs.Calls.{tells_of}
 use Rattle.vault_sql.proofs.records.recorded.Goals as goal
 
 pub returns : goal.returns
 returns g c =
-    tells_of c.find.ensures (λ V cards pointing found are is. rw (c.caller_text.ensures, c.get.ensures.value) at is)
+    tells_of c.find.ensures
+    (λ V cards pointing found are is. rw (c.caller_text.ensures, c.get.ensures.value) at is)

@@ -1,4 +1,3 @@
-use Rattle.std.proofs.Common.{◌≡◌}
 use Rattle.vault_sql.proofs.Calls.{tells_of}
 use Rattle.vault_sql.proofs.rights.right.Goals as goal
 

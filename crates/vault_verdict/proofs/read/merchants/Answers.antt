@@ -17,7 +17,8 @@ returns-then-is_from g c =
     subst (λ (b : Bool). ReadsTable g.S.Store (cond b READ_MERCHANTS.now READ_OLD_MERCHANTS.now)
     merchant_values (schema_of v) IsAny (λ db. cond b (db 17) (map with_first_lead (db 1))) merchant_values
     (λ raw. raw.rowid) c.read_all.result c.args.conn.now c.read_all.new.conn) (sym has)
-    (rw (schema_from v Three refl has) (c.read_all.ensures (behind_from v Three) (indexes_behind_from v Three)))
+    (rw (schema_from v Three refl has)
+    (c.read_all.ensures (behind_from v Three) (indexes_behind_from v Three)))
 
 pub returns-else-is_from : goal.returns-else-is_from
 returns-else-is_from g c =
