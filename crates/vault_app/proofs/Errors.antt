@@ -2,8 +2,8 @@
 -- or which of their words is none.
 use Rattle.std.proofs.Common.{◌≡◌, ◌⊎◌, inl, inr, ℕ, ℤ, List, Bool, true, false, Option, Some, None}
 use Rattle.std.proofs.Common.{Result, Ok, Err, ap, arith, refl, subst}
-use Rattle.std.specs.Prelude.{if◌then◌else◌}
 use Rattle.std.specs.Global.{Vec}
+use Rattle.std.specs.Prelude.{if◌then◌else◌}
 use Rattle.clap.specs.Words.{Text}
 use Rattle.sqlite_disk.specs.declared.Disk.{Ghosts}
 use Rattle.sqlite_store.specs.declared.store.FileStore.{FileStore}
@@ -18,14 +18,14 @@ use Rattle.vault_words.specs.declared.jobs.Job.TheVariants.{List as Listing}
 use Rattle.vault_words.specs.declared.jobs.Job.TheVariants.{Check, Migrate}
 use Rattle.vault_jobs.specs.Moments.{giver_of}
 use Rattle.vault_jobs.specs.Notes.{MayNote as MayNoteTask}
-use Rattle.vault_jobs.specs.Streams.{Known, Streams}
+use Rattle.vault_jobs.specs.Streams.{Output, Streams, output_with, seen_as}
 use Rattle.vault_jobs.specs.declared.clock.Giver.TheVariants.{Clock}
 use Rattle.vault_jobs.specs.declared.note.Note.{Note as TaskNote}
 use Rattle.vault_jobs.specs.declared.show.Shown.TheVariants as show
 use Rattle.vault_jobs.specs.declared.task.Task.{Task}
 use Rattle.vault_jobs.specs.declared.task.Task.TheVariants as task
 use Rattle.vault_app.specs.Asked.{AsksFor}
-use Rattle.vault_app.specs.Ending.{Says, note_line, placeholder_line, status_of}
+use Rattle.vault_app.specs.Ending.{Said, Says, note_line, placeholder_line, status_of}
 use Rattle.vault_app.specs.Endings.{NotedLineEnds}
 use Rattle.vault_app.specs.Files.{EndsOnFile}
 use Rattle.vault_app.specs.Jobs.{Does, DoesPlan}
@@ -52,13 +52,13 @@ PlanNotes it (plan.Migrate path) = it ≡ note.Made
 PlanNotes it (plan.Do path t) = OfTask it (MayNoteTask t)
 
 -- what is noted beside a line
-line_notes : (text : List ℕ) (noted : Bool) (of it : Note) (old new : Known) (writer : Bool)
-    → NotedLineEnds text noted of (Noted it) old new writer → it ≡ of
-line_notes text true of it old new writer (Done, ends, is) = cc
-line_notes text false of it old new writer (Done, ends, is) = absurd (cc (is))
-line_notes text true of it old new writer (Stopped why, ends, is) = absurd (cc (is))
-line_notes text false of it old new writer (Stopped why, ends, is) = absurd (cc (is))
-line_notes text noted of it old new writer (line, ends, is) = absurd ends
+line_notes : (text : List ℕ) (noted : Bool) (of it : Note) (out : Output)
+    → NotedLineEnds text noted of (Noted it) out → it ≡ of
+line_notes text true of it out (Done, ends, is) = cc
+line_notes text false of it out (Done, ends, is) = absurd (cc (is))
+line_notes text true of it out (Stopped why, ends, is) = absurd (cc (is))
+line_notes text false of it out (Stopped why, ends, is) = absurd (cc (is))
+line_notes text noted of it out (line, ends, is) = absurd ends
 
 -- the clock gives the moment only where none is fixed
 none_fixed : (now : Option ℕ) → giver_of now ≡ Clock → now ≡ None
@@ -120,29 +120,33 @@ job_notes world (note.Task of) job p (t, is, same) h =
 module _ {D : Type 0} {g : Ghosts D} (world : World) (left : Option (FileStore D g))
     (unread unsent : Type 0) (s : Streams) where
   sizes_notes : (it : Note) (log : Bool) (told : Result Sizes FileFault)
-      → TellsSizes log told (Noted it) unsent s.sent_old s.sent_new s.writer → it ≡ note.Log
-  sizes_notes it log (Ok sizes) h = line_notes _ log note.Log it _ _ _ h
+      → TellsSizes log told (Noted it) (output_with unsent s.sent_old s.sent_new s.writer) → it ≡ note.Log
+  sizes_notes it log (Ok sizes) h = line_notes _ log note.Log it
+      (output_with unsent s.sent_old s.sent_new s.writer) h
   sizes_notes it log (Err why) h = let is = h.0 in absurd (cc (is))
 
   moved_notes : (it : Note) (was_empty : Bool) (told : Result ℤ FileFault)
-      → TellsMoved was_empty told (Noted it) unsent s.sent_old s.sent_new s.writer → it ≡ note.Made
-  moved_notes it was_empty (Ok version) h = line_notes _ was_empty note.Made it _ _ _ h
+      → TellsMoved was_empty told (Noted it) (output_with unsent s.sent_old s.sent_new s.writer) → it ≡
+      note.Made
+  moved_notes it was_empty (Ok version) h = line_notes _ was_empty note.Made it
+      (output_with unsent s.sent_old s.sent_new s.writer) h
   moved_notes it was_empty (Err why) h = let is = h.0 in absurd (cc (is))
 
   file_notes : (it : Note) (path : List ℕ) (left : Option (FileStore D g)) (t : Task)
-      → EndsOnFile world path left t (Noted it) unread unsent s → OfTask it (MayNoteTask t)
+      → EndsOnFile world path left t (Noted it) (seen_as unread unsent s) → OfTask it (MayNoteTask t)
   file_notes note.Log path (Some left) t h = absurd h
   file_notes note.Made path (Some left) t h = absurd h
   file_notes (note.Task of) path (Some left) t h = h.done.noted.fits.0
   file_notes it path None t h = let is = h.1 in absurd (cc (is))
 
-  plan_notes : (it : Note) (p : Plan) → DoesPlan world left p (Noted it) unread unsent s → PlanNotes it p
+  plan_notes : (it : Note) (p : Plan) → DoesPlan world left p (Noted it) (seen_as unread unsent s) → PlanNotes
+      it p
   plan_notes it (plan.Trial t) h = absurd h.1
   plan_notes it (plan.Check path) h = sizes_notes it h.1.2.0 h.1.0 h.1.2.2
   plan_notes it (plan.Migrate path) h = moved_notes it h.1.2.0 h.1.0 h.1.2.2
   plan_notes it (plan.Do path t) h = file_notes it path.now left t h
 
-  note_of : (it : Note) (words : List Text) → Does world left words (Noted it) unread unsent s
+  note_of : (it : Note) (words : List Text) → Does world left words (Noted it) (seen_as unread unsent s)
       → AsksFor words (MayNote it)
   note_of it words (inl (job, asked, inl (p, is, proper, h))) =
       (job, asked, job_notes world it job p is (plan_notes it p h))
@@ -152,7 +156,8 @@ module _ {D : Type 0} {g : Ghosts D} (world : World) (left : Option (FileStore D
   note_of it words (inr (none, inr (inl (unknown, is, calm, silent)))) = absurd (cc (is))
   note_of it words (inr (none, inr (inr (is, calm, silent)))) = absurd (cc (is))
 
-  misnamed_of : (it : Placeholder) (words : List Text) → Does world left words (Misnamed it) unread unsent s
+  misnamed_of : (it : Placeholder) (words : List Text) → Does world left words (Misnamed it)
+      (seen_as unread unsent s)
       → AsksFor words (IsMisnamed it)
   misnamed_of it words (inl (job, asked, inl (p, is, proper, h))) =
       absurd (plan_without world left unread unsent s (Misnamed it) tt p h)
@@ -163,33 +168,34 @@ module _ {D : Type 0} {g : Ghosts D} (world : World) (left : Option (FileStore D
   misnamed_of it words (inr (none, inr (inr (is, calm, silent)))) = absurd (cc (is))
 
   -- with a status of 0 nothing is said on the errors, or a note that the job may have
-  pub noted_at : (words : List Text) (ending : Ending) (why : List ℕ) (same_output same_errors : Type 0)
-      (output errors : List ℕ → Type 0) → status_of ending ≡ 0
-      → Does world left words ending unread unsent s
-      → Says why ending same_output same_errors output errors
-      → same_errors ⊎ (it : Note) × AsksFor words (MayNote it) × errors (note_line it)
-  noted_at words Done why A B o e at h said = inl said.1
-  noted_at words (Noted it) why A B o e at h said = inr (it, note_of it words h, said.1)
-  noted_at words Version why A B o e at h said = inl said.1
-  noted_at words (Refused n) why A B o e at h said = inl said.1
-  noted_at words (Misnamed it) why A B o e at h said = absurd (omega (arith, at))
-  noted_at words SomeRefused why A B o e at h said = inl said.1
-  noted_at words BadWords why A B o e at h said = absurd (omega (arith, at))
-  noted_at words (NotOpened f) why A B o e at h said = absurd (omega (arith, at))
-  noted_at words (Stopped stop) why A B o e at h said = absurd (omega (arith, at))
+  pub noted_at : (words : List Text) (ending : Ending) (why : List ℕ) (output errors : Said)
+      → status_of ending ≡ 0
+      → Does world left words ending (seen_as unread unsent s)
+      → Says why ending output errors
+      → errors.nothing ⊎ (it : Note) × AsksFor words (MayNote it) × errors.bytes (note_line it)
+  noted_at words Done why o e at h said = inl said.1
+  noted_at words (Noted it) why o e at h said = inr (it, note_of it words h, said.1)
+  noted_at words Version why o e at h said = inl said.1
+  noted_at words (Refused n) why o e at h said = inl said.1
+  noted_at words (Misnamed it) why o e at h said = absurd (omega (arith, at))
+  noted_at words SomeRefused why o e at h said = inl said.1
+  noted_at words BadWords why o e at h said = absurd (omega (arith, at))
+  noted_at words (NotOpened f) why o e at h said = absurd (omega (arith, at))
+  noted_at words (Stopped stop) why o e at h said = absurd (omega (arith, at))
 
   -- and with 1 nothing is, or which of the job's words is none
-  pub misnamed_at : (words : List Text) (ending : Ending) (why : List ℕ) (same_output same_errors : Type 0)
-      (output errors : List ℕ → Type 0) → status_of ending ≡ 1
-      → Does world left words ending unread unsent s
-      → Says why ending same_output same_errors output errors
-      → same_errors ⊎ (it : Placeholder) × AsksFor words (IsMisnamed it) × errors (placeholder_line it)
-  misnamed_at words Done why A B o e at h said = inl said.1
-  misnamed_at words (Noted it) why A B o e at h said = absurd (omega (arith, at))
-  misnamed_at words Version why A B o e at h said = inl said.1
-  misnamed_at words (Refused n) why A B o e at h said = inl said.1
-  misnamed_at words (Misnamed it) why A B o e at h said = inr (it, misnamed_of it words h, said.1)
-  misnamed_at words SomeRefused why A B o e at h said = inl said.1
-  misnamed_at words BadWords why A B o e at h said = absurd (omega (arith, at))
-  misnamed_at words (NotOpened f) why A B o e at h said = absurd (omega (arith, at))
-  misnamed_at words (Stopped stop) why A B o e at h said = absurd (omega (arith, at))
+  pub misnamed_at : (words : List Text) (ending : Ending) (why : List ℕ) (output errors : Said)
+      → status_of ending ≡ 1
+      → Does world left words ending (seen_as unread unsent s)
+      → Says why ending output errors
+      → errors.nothing ⊎ (it : Placeholder) × AsksFor words (IsMisnamed it)
+      × errors.bytes (placeholder_line it)
+  misnamed_at words Done why o e at h said = inl said.1
+  misnamed_at words (Noted it) why o e at h said = absurd (omega (arith, at))
+  misnamed_at words Version why o e at h said = inl said.1
+  misnamed_at words (Refused n) why o e at h said = inl said.1
+  misnamed_at words (Misnamed it) why o e at h said = inr (it, misnamed_of it words h, said.1)
+  misnamed_at words SomeRefused why o e at h said = inl said.1
+  misnamed_at words BadWords why o e at h said = absurd (omega (arith, at))
+  misnamed_at words (NotOpened f) why o e at h said = absurd (omega (arith, at))
+  misnamed_at words (Stopped stop) why o e at h said = absurd (omega (arith, at))

@@ -1,5 +1,5 @@
 -- A task on the vault in files, said of the files.
-use Rattle.std.proofs.Common.{◌≡◌, ◌≢◌, ◌↔◌, ◌⊎◌, ℕ, List, Bool, Option, Some, None, Result, Ok, Err, false}
+use Rattle.std.proofs.Common.{◌≡◌, ◌↔◌, ◌⊎◌, ℕ, List, Bool, Option, Some, None, Result, Ok, Err, false}
 use Rattle.std.proofs.Common.{◌≤◌, ap, arith, inl, inr, refl, subst, sym}
 use Rattle.std.specs.Prelude.{ℤ, IfErr, IfOk, IfSome}
 use Rattle.sqlite.specs.Files.{file_state}
@@ -13,22 +13,21 @@ use Rattle.sqlite_wal.specs.Recovery.{Image}
 use Rattle.vault_core.specs.Sound.{Sound}
 use Rattle.vault_core.specs.Vault.{Vault as Content, empty_vault}
 use Rattle.vault_file.specs.Closed.{ReopensAs}
-use Rattle.vault_file.specs.Found.{ChecksAs, MayFindNone, OpensFrom, SparesStopped, Stays}
+use Rattle.vault_file.specs.Found.{ChecksAs, MayFindNone, OpensFrom, RefusesRightly, Stays}
 use Rattle.vault_file.specs.Paths.{Each}
-use Rattle.vault_file.specs.Found.{StaysWhole, TellsFound}
-use Rattle.vault_file.specs.Moved.{MayFindOlder, MovesAs, StaysOld, TellsOld}
-use Rattle.vault_verdict.specs.declared.fault.OpenFault.TheVariants.{Memory, Store}
+use Rattle.vault_file.specs.Found.{StaysWhole}
+use Rattle.vault_file.specs.Moved.{MovesAs, StaysUnmoved}
+use Rattle.vault_verdict.specs.declared.fault.OpenFault.TheVariants.{Memory}
 use Rattle.vault_file.specs.declared.fault.NotOpened.{NotOpened as FileFault}
 use Rattle.vault_file.specs.declared.fault.NotOpened.TheVariants as file
 use Rattle.vault_jobs.proofs.RefinedTasks.{refined}
 use Rattle.vault_jobs.specs.Doing.{Does}
-use Rattle.vault_jobs.specs.Streams.{Streams}
+use Rattle.vault_jobs.specs.Streams.{Streams, seen_as}
 use Rattle.vault_jobs.specs.declared.note.Note.{Note as TaskNote}
 use Rattle.vault_jobs.specs.declared.stop.Stop.{Stop}
 use Rattle.vault_jobs.specs.declared.task.Outcome.{Outcome}
 use Rattle.vault_jobs.specs.declared.task.Outcome.TheVariants as outcome
 use Rattle.vault_jobs.specs.declared.task.Task.{Task}
-use Rattle.vault_listen.specs.Peers.{vault_passing}
 use Rattle.vault_jobs.specs.Outside.{Outside}
 use Rattle.vault_recover.specs.Crashed.{Reopens, ReopensEither}
 use Rattle.vault_schema.specs.Holds.{Holds, LeavesEither}
@@ -39,6 +38,9 @@ use Rattle.vault_app.specs.Files.{EndsOnFile, WorksOn, ending_for}
 use Rattle.vault_app.specs.World.{World, outside_in}
 use Rattle.vault_app.specs.Jobs.{IsChecked, IsMoved}
 use Rattle.vault_app.specs.declared.ending.Ending.TheVariants.{NotOpened}
+use Rattle.vault_engine.specs.Passing.{vault_passing}
+use Rattle.vault_file.specs.Refused.{WhereDone, WhereLeft, WhereShut}
+use Rattle.vault_store.specs.Applied.{is_broken}
 
 module _ {D : Type 0} {g : Ghosts D} {T : Type 0} (conn_of : T → Held (FileStore D g))
     (failed : T → Bool) (Past : T → Content → Type 0) where
@@ -49,7 +51,7 @@ module _ {D : Type 0} {g : Ghosts D} {T : Type 0} (conn_of : T → Held (FileSto
       × (HasCleanDisk (file_state (conn_of t)) → Holds (file_state (conn_of t)) V × Past t V)
 
   pub works : (at : Outside) (Holding : Image → Type 0) (v v' : Vault T) (left : FileStore D g)
-      (task : Task) (r : Result Outcome Stop) (it : Option TaskNote) (broken : Bool)
+      (task : Task) (r : Result Outcome Stop) (it : Option TaskNote)
       (unread unsent : Type 0) (s : Streams)
       → Each Holding (λ image. OpensFrom image (conn_of v.tables)) → (failed v.tables ≡ false)
       × ((V : Content) → Past v.tables V)
@@ -58,9 +60,9 @@ module _ {D : Type 0} {g : Ghosts D} {T : Type 0} (conn_of : T → Held (FileSto
       → doubt (file_state conn).is_clean ≤ doubt (view left).is_clean
       → (IsClean (view left) → ReopensAs (file_state conn) left)
       → Does at task (vault_passing (λ t. HasCleanDisk (file_state (conn_of t))) held
-      (λ t V W. LeavesEither (file_state (conn_of t)) V W) v v') broken r it unread unsent s
-      → WorksOn Holding left (λ p b. Does at task p b r it unread unsent s)
-  works at Holding v v' left task r it broken unread unsent s found fresh honest conn same no_less after
+      (λ t V W. LeavesEither (file_state (conn_of t)) V W) v v') r it (seen_as unread unsent s)
+      → WorksOn Holding left (λ p. Does at task p r it (seen_as unread unsent s))
+  works at Holding v v' left task r it unread unsent s found fresh honest conn same no_less after
       does =
       let closed : IsClean (view left) → HasCleanDisk (file_state (conn_of v'.tables)) =
       λ clean. subst (λ h. HasCleanDisk (file_state h)) same (omega (arith, no_less, clean)) in
@@ -70,7 +72,7 @@ module _ {D : Type 0} {g : Ghosts D} {T : Type 0} (conn_of : T → Held (FileSto
       → LeavesEither (file_state conn) V W = λ V W. subst (λ h. LeavesEither (file_state h) V W) (sym same) in
       record {
         opened = conn_of v.tables;
-        broken = broken;
+        broken = is_broken v';
         found = found;
         clean = λ clean. honest (closed clean);
         done = refined (IsClean (view left)) (λ V. Holds (file_state (conn_of v.tables)) V × Sound V)
@@ -83,15 +85,16 @@ module _ {D : Type 0} {g : Ghosts D} {T : Type 0} (conn_of : T → Held (FileSto
               (after clean).either V V (left_by V V kept.1),
             ))
             (λ clean V W torn. (after clean).either V W (left_by V W torn))
-            s at task broken r it unread unsent does;
+            s at task r it unread unsent does;
       }
 
 module _ {D : Type 0} {g : Ghosts D} (world : World) (path : List ℕ) (unread unsent : Type 0) (s : Streams)
   where
     -- only what is done is noted
     pub ended : (left : FileStore D g) (task : Task) (r : Result Outcome Stop) (o : Option TaskNote)
-        → WorksOn (world.holds path) left (λ p b. Does (outside_in world) task p b r o unread unsent s)
-        → EndsOnFile world path (Some left) task (ending_for r o) unread unsent s
+        → WorksOn (world.holds path) left (λ p. Does (outside_in world) task p r o
+        (seen_as unread unsent s))
+        → EndsOnFile world path (Some left) task (ending_for r o) (seen_as unread unsent s)
     ended left task (Ok outcome.Done) None works = works
     ended left task (Ok outcome.Done) (Some it) works = works
     ended left task (Ok (outcome.Refused n)) None works = works
@@ -105,15 +108,14 @@ module _ {D : Type 0} {g : Ghosts D} (world : World) (path : List ℕ) (unread u
 
     pub refused_file : (left : Option (FileStore D g)) (task : Task) (why : FileFault)
         → (why ≡ file.Refused) ↔ (left ≡ None) → (why ≡ file.Refused → world.refuses path)
-        → IfSome left (λ it. Each (world.holds path) (λ image. IsClean (view it) → SparesStopped image why))
-        → IfSome left (λ it. Each (world.holds path) (λ image. IsClean (view it) → TellsFound image why))
+        → IfSome left (λ it. Each (world.holds path) (λ image. IsClean (view it) → RefusesRightly image why))
         → IfSome left (λ it. Each (world.holds path) (λ image. Stays image it))
         → IfSome left (λ it. Each (world.holds path) (λ image. ¬ MayFindNone image → StaysWhole image it))
-        → unread → unsent → EndsOnFile world path left task (NotOpened why) unread unsent s
-    refused_file None task why is there never tells stays same calm silent =
+        → unread → unsent → EndsOnFile world path left task (NotOpened why) (seen_as unread unsent s)
+    refused_file None task why is there tells stays same calm silent =
         (why, refl, inl (is.1 refl, inl (there (is.1 refl))), calm, silent)
-    refused_file (Some left) task why is there never tells stays same calm silent =
-        (record { spared = never; tells = tells; stays = stays; same = same }, calm, silent)
+    refused_file (Some left) task why is there tells stays same calm silent =
+        (record { tells = tells; stays = stays; same = same }, calm, silent)
 
 -- what holds, holds where there is no error
 pub if_ok : {A E P : Type 0} (r : Result A E) → P → IfOk r (λ it. P)
@@ -127,47 +129,28 @@ module _ {D : Type 0} {g : Ghosts D} (world : World) (path : List ℕ) where
       → IfErr r (λ why. (why ≡ file.Refused → left ≡ None)
       × (left ≡ None → (why ≡ file.Refused) ⊎ (why ≡ file.Fault Memory)))
       → (r ≡ Err file.Refused → world.refuses path)
-      → IfOk r (λ sizes. IfSome left (λ it. Each (world.holds path) (λ image. ChecksAs image it sizes)))
-      → IfErr r (λ why. IfSome left
-      (λ it. Each (world.holds path) (λ image. IsClean (view it) → SparesStopped image why)))
-      → IfErr r (λ why. IfSome left
-      (λ it. Each (world.holds path) (λ image. IsClean (view it) → TellsFound image why)))
-      → IfSome left (λ it. Each (world.holds path) (λ image. StaysWhole image it))
-      → IfSome left (λ it. Each (world.holds path) (λ image. Stays image it))
+      → WhereDone (r, left) (world.holds path) ChecksAs
+      → WhereLeft (r, left) (world.holds path) (λ image it why. IsClean (view it) → RefusesRightly image why)
+      → WhereShut (r, left) (world.holds path) StaysWhole → WhereShut (r, left) (world.holds path) Stays
       → IsChecked world path left r
-  checked None (Ok sizes) empty refused there sound never tells same stays = empty refl
-  checked None (Err why) empty refused there sound never tells same stays =
+  checked None (Ok sizes) empty refused there sound tells same stays = empty refl
+  checked None (Err why) empty refused there sound tells same stays =
       elim (refused.1 refl) [
         | inl is ↦ inl (is, there (ap Err is))
         | inr starved ↦ inr starved
       ]
-  checked (Some left) (Ok sizes) empty refused there sound never tells same stays =
+  checked (Some left) (Ok sizes) empty refused there sound tells same stays =
       λ image at. (sound image at, same image at, stays image at)
-  checked (Some left) (Err why) empty refused there sound never tells same stays =
-      λ image at. (λ clean. (never image at clean, tells image at clean), same image at, stays image at)
+  checked (Some left) (Err why) empty refused there sound tells same stays =
+      λ image at. (tells image at, same image at, stays image at)
 
   -- and a migration
   pub moved : (left : Option (FileStore D g)) (r : Result ℤ FileFault)
       → (left ≡ None) ↔ (r ≡ Err file.Refused) → (r ≡ Err file.Refused → world.refuses path)
-      → IfOk r (λ _. IfSome left (λ it. Each (world.holds path) (λ image. MovesAs image it)))
-      → IfErr r (λ why. IfSome left (λ it. Each (world.holds path) (λ image. StaysOld image it why)))
-      → IfErr r (λ why. IfSome left
-      (λ it. Each (world.holds path) (λ image. IsClean (view it) → TellsOld image why)))
-      → IfErr r (λ _. IfSome left (λ it. Each (world.holds path) (λ image. Stays image it)))
-      → IfErr r (λ why. IfSome left (λ it. Each (world.holds path)
-      (λ image. why ≢ file.Fault Store → StaysWhole image it)))
-      → IfErr r (λ _. IfSome left (λ it. Each (world.holds path)
-      (λ image. ¬ MayFindNone image → ¬ MayFindOlder image → StaysWhole image it)))
-      → IsMoved world path left r
-  moved None (Ok version) refused there moves old tells stays same unmoved =
-      let clash = refused.0 refl in cc
-  moved None (Err why) refused there moves old tells stays same unmoved =
+      → WhereDone (r, left) (world.holds path) (λ image it _. MovesAs image it)
+      → WhereLeft (r, left) (world.holds path) StaysUnmoved → IsMoved world path left r
+  moved None (Ok version) refused there moves stays = let clash = refused.0 refl in cc
+  moved None (Err why) refused there moves stays =
       let is : Err why ≡ Err file.Refused = refused.0 refl in (cc (is), there is)
-  moved (Some left) (Ok version) refused there moves old tells stays same unmoved = moves
-  moved (Some left) (Err why) refused there moves old tells stays same unmoved = λ image at. (
-    old image at,
-    tells image at,
-    stays image at,
-    same image at,
-    unmoved image at,
-  )
+  moved (Some left) (Ok version) refused there moves stays = moves
+  moved (Some left) (Err why) refused there moves stays = stays

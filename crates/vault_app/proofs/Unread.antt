@@ -1,8 +1,8 @@
 -- What a run that ends with words that are bad, a file that isn't opened or a refusal read and wrote.
 use Rattle.std.proofs.Common.{◌≡◌, ◌⊎◌, inl, inr, ℕ, ℤ, List, Bool, Option, Some, None, Result, Ok, Err}
 use Rattle.std.proofs.Common.{arith, refl, sym, subst, true, false}
-use Rattle.std.specs.Prelude.{if◌then◌else◌}
 use Rattle.std.specs.Global.{Vec}
+use Rattle.std.specs.Prelude.{if◌then◌else◌}
 use Rattle.vault_merchants.specs.Listed.{Wanted}
 use Rattle.vault_rights.specs.Named.{Row}
 use Rattle.clap.specs.Words.{Text}
@@ -19,7 +19,7 @@ use Rattle.vault_words.specs.declared.jobs.Job.TheVariants.{List as Listing}
 use Rattle.vault_words.specs.declared.jobs.Job.TheVariants.{Check, Migrate}
 use Rattle.vault_jobs.specs.Doing.{Works}
 use Rattle.vault_jobs.specs.Doing.{Does as Performs}
-use Rattle.vault_jobs.specs.Streams.{Known, Streams}
+use Rattle.vault_jobs.specs.Streams.{Output, Streams, output_with, seen_as}
 use Rattle.vault_jobs.specs.declared.task.Outcome.TheVariants as outcome
 use Rattle.vault_jobs.specs.declared.show.Shown.TheVariants as show
 use Rattle.vault_jobs.specs.declared.task.Task.{Task}
@@ -27,7 +27,7 @@ use Rattle.vault_jobs.specs.declared.trial.Trial.{Trial as Asked}
 use Rattle.vault_jobs.specs.declared.clock.Giver.TheVariants.{Words, Clock}
 use Rattle.vault_jobs.specs.declared.task.Task.TheVariants as task
 use Rattle.vault_app.specs.Asked.{AsksFor, IsBatch, Unasked}
-use Rattle.vault_app.specs.Ending.{Says, status_of}
+use Rattle.vault_app.specs.Ending.{Said, Says, status_of}
 use Rattle.vault_app.specs.Files.{EndsOnFile}
 use Rattle.vault_app.specs.Jobs.{Does, DoesPlan}
 use Rattle.vault_app.specs.Commands.Check.{TellsSizes}
@@ -51,22 +51,20 @@ unasked words ending unread unsent calm (inr (inl (none, is, _, silent))) = inr 
 unasked words ending unread unsent calm (inr (inr (is, _, silent))) = inr (inr (is, calm, silent))
 
 -- at these statuses nothing more goes out
-pub said_at : (why : List ℕ) (ending : Ending) (same_output same_errors : Type 0)
-    (output errors : List ℕ → Type 0)
-    → (status_of ending ≡ 2) ⊎ (status_of ending ≡ 3)
-    → Says why ending same_output same_errors output errors → same_output
-said_at why BadWords A B o e at said = said.0
-said_at why (NotOpened f) A B o e at said = said.0
-said_at why Done A B o e at said = said.0
-said_at why (Noted it) A B o e at said = said.0
-said_at why SomeRefused A B o e at said = said.0
-said_at why (Stopped stop) A B o e at said = said.0
-said_at why Version A B o e (inl at) said = absurd (omega (arith, at))
-said_at why Version A B o e (inr at) said = absurd (omega (arith, at))
-said_at why (Refused n) A B o e (inl at) said = absurd (omega (arith, at))
-said_at why (Refused n) A B o e (inr at) said = absurd (omega (arith, at))
-said_at why (Misnamed it) A B o e (inl at) said = absurd (omega (arith, at))
-said_at why (Misnamed it) A B o e (inr at) said = absurd (omega (arith, at))
+pub said_at : (why : List ℕ) (ending : Ending) (output errors : Said)
+    → (status_of ending ≡ 2) ⊎ (status_of ending ≡ 3) → Says why ending output errors → output.nothing
+said_at why BadWords o e at said = said.0
+said_at why (NotOpened f) o e at said = said.0
+said_at why Done o e at said = said.0
+said_at why (Noted it) o e at said = said.0
+said_at why SomeRefused o e at said = said.0
+said_at why (Stopped stop) o e at said = said.0
+said_at why Version o e (inl at) said = absurd (omega (arith, at))
+said_at why Version o e (inr at) said = absurd (omega (arith, at))
+said_at why (Refused n) o e (inl at) said = absurd (omega (arith, at))
+said_at why (Refused n) o e (inr at) said = absurd (omega (arith, at))
+said_at why (Misnamed it) o e (inl at) said = absurd (omega (arith, at))
+said_at why (Misnamed it) o e (inr at) said = absurd (omega (arith, at))
 
 -- the end of a job that wrote a line, with what is noted beside it
 abbrev IsOfLine : Ending → Type 0
@@ -76,13 +74,13 @@ IsOfLine (Stopped why) = Unit {0}
 IsOfLine ending = ⊥
 
 -- a check ends so, and a move
-of_line : (text : List ℕ) (noted : Bool) (of : Note) (ending : Ending) (old new : Known) (writer : Bool)
-    → NotedLineEnds text noted of ending old new writer → IsOfLine ending
-of_line text true of ending old new writer (Done, ends, is) = subst IsOfLine (sym is) tt
-of_line text false of ending old new writer (Done, ends, is) = subst IsOfLine (sym is) tt
-of_line text true of ending old new writer (Stopped why, ends, is) = subst IsOfLine (sym is) tt
-of_line text false of ending old new writer (Stopped why, ends, is) = subst IsOfLine (sym is) tt
-of_line text noted of ending old new writer (line, ends, is) = absurd ends
+of_line : (text : List ℕ) (noted : Bool) (of : Note) (ending : Ending) (out : Output)
+    → NotedLineEnds text noted of ending out → IsOfLine ending
+of_line text true of ending out (Done, ends, is) = subst IsOfLine (sym is) tt
+of_line text false of ending out (Done, ends, is) = subst IsOfLine (sym is) tt
+of_line text true of ending out (Stopped why, ends, is) = subst IsOfLine (sym is) tt
+of_line text false of ending out (Stopped why, ends, is) = subst IsOfLine (sym is) tt
+of_line text noted of ending out (line, ends, is) = absurd ends
 
 -- without a plan only
 abbrev pub IsPlanless : Ending → Type 0
@@ -132,46 +130,48 @@ batch_of world (Sweep j) t (names, (who, now, caller, merchant, moment, same)) r
 batch_of world job t is rows = absurd is
 
 module _ (at : Outside) (unread unsent : Type 0) (s : Streams) where
-  rows_of : (t : Task) (w : Passage) (broken : Bool)
-      → Works at t w broken (Ok outcome.SomeRefused) unread unsent s → IsOfRows t
-  rows_of (task.Change c) w broken (inl h) = h
-  rows_of (task.Change c) w broken (inr (f, is, silent, h, some)) = absurd (cc is)
-  rows_of (task.Give rows now) w broken h = h
-  rows_of (task.Settle rows now) w broken (inl (changes, of, h)) = h
-  rows_of (task.Settle rows now) w broken (inr (f, is, silent, h)) = absurd (cc is)
-  rows_of (task.SetMerchants rows now) w broken (inl (cs, of, h)) = h
-  rows_of (task.SetMerchants rows now) w broken (inr (f, is, silent, h)) = absurd (cc is)
-  rows_of (task.Sweep who now Words) w broken h = h
-  rows_of (task.Sweep who now Clock) w broken (inl (near, h)) = h
-  rows_of (task.Sweep who now Clock) w broken (inr (inl (is, silent, same, far))) = absurd (cc is)
-  rows_of (task.Sweep who now Clock) w broken (inr (inr (f, is, silent, h))) = absurd (cc is)
-  rows_of (task.Batch who now digits) w broken h = tt
-  rows_of (task.Pipe now digits) w broken h = h
-  rows_of (task.Serve port connections lists) w broken (inl (some, none, h)) = h
-  rows_of (task.Serve port connections lists) w broken (inr h) = h.1
-  rows_of (task.Show it) w broken h = h
+  rows_of : (t : Task) (w : Passage)
+      → Works at t w (Ok outcome.SomeRefused) (seen_as unread unsent s) → IsOfRows t
+  rows_of (task.Change c) w (inl h) = h
+  rows_of (task.Change c) w (inr (f, is, silent, h, some)) = absurd (cc is)
+  rows_of (task.Give rows now) w h = h
+  rows_of (task.Settle rows now) w (inl (changes, of, h)) = h
+  rows_of (task.Settle rows now) w (inr (f, is, silent, h)) = absurd (cc is)
+  rows_of (task.SetMerchants rows now) w (inl (cs, of, h)) = h
+  rows_of (task.SetMerchants rows now) w (inr (f, is, silent, h)) = absurd (cc is)
+  rows_of (task.Sweep who now Words) w h = h
+  rows_of (task.Sweep who now Clock) w (inl (near, h)) = h
+  rows_of (task.Sweep who now Clock) w (inr (inl (is, silent, same, far))) = absurd (cc is)
+  rows_of (task.Sweep who now Clock) w (inr (inr (f, is, silent, h))) = absurd (cc is)
+  rows_of (task.Batch who now digits) w h = tt
+  rows_of (task.Pipe now digits) w h = h
+  rows_of (task.Serve port connections lists) w (inl (some, none, h)) = h
+  rows_of (task.Serve port connections lists) w (inr h) = h.1
+  rows_of (task.Show it) w h = h
 
-  unread_by : (t : Task) (w : Passage) (broken : Bool) (n : ℕ)
-      → Performs at t w broken (Ok (outcome.Refused n)) None unread unsent s → unread
-  unread_by (task.Batch who now digits) w broken n d = absurd d.works
-  unread_by (task.Pipe now digits) w broken n d = absurd d.works
-  unread_by t w broken n d = d.begun
+  unread_by : (t : Task) (w : Passage) (n : ℕ)
+      → Performs at t w (Ok (outcome.Refused n)) None (seen_as unread unsent s) → unread
+  unread_by (task.Batch who now digits) w n d = absurd d.works
+  unread_by (task.Pipe now digits) w n d = absurd d.works
+  unread_by t w n d = d.begun
 
 module _ {D : Type 0} {g : Ghosts D} (world : World) (left : Option (FileStore D g))
     (unread unsent : Type 0) (s : Streams) where
   -- a plan doesn't end with bad words, or with a word that is no name or no right
   sizes_without : (e : Ending) → IsPlanless e → (log : Bool) (told : Result Sizes FileFault)
-      → ¬ (TellsSizes log told e unsent s.sent_old s.sent_new s.writer)
-  sizes_without e is log (Ok sizes) h = no_line e is (of_line _ log _ e _ _ _ h)
+      → ¬ (TellsSizes log told e (output_with unsent s.sent_old s.sent_new s.writer))
+  sizes_without e is log (Ok sizes) h = no_line e is (of_line _ log _ e
+      (output_with unsent s.sent_old s.sent_new s.writer) h)
   sizes_without e is log (Err why) h = subst IsPlanless h.0 is
 
   moved_without : (e : Ending) → IsPlanless e → (was_empty : Bool) (told : Result ℤ FileFault)
-      → ¬ (TellsMoved was_empty told e unsent s.sent_old s.sent_new s.writer)
-  moved_without e is was_empty (Ok version) h = no_line e is (of_line _ was_empty _ e _ _ _ h)
+      → ¬ (TellsMoved was_empty told e (output_with unsent s.sent_old s.sent_new s.writer))
+  moved_without e is was_empty (Ok version) h = no_line e is (of_line _ was_empty _ e
+      (output_with unsent s.sent_old s.sent_new s.writer) h)
   moved_without e is was_empty (Err why) h = subst IsPlanless h.0 is
 
   file_without : (e : Ending) → IsPlanless e → (path : List ℕ) (left : Option (FileStore D g)) (t : Task)
-      → ¬ (EndsOnFile world path left t e unread unsent s)
+      → ¬ (EndsOnFile world path left t e (seen_as unread unsent s))
   file_without BadWords is path (Some it) t h = h
   file_without (Misnamed placeholder) is path (Some it) t h = h
   file_without e is path (Some it) t h = absurd is
@@ -183,7 +183,7 @@ module _ {D : Type 0} {g : Ghosts D} (world : World) (left : Option (FileStore D
   trial_without e is t h = absurd is
 
   pub plan_without : (e : Ending) → IsPlanless e → (p : Plan)
-      → ¬ (DoesPlan world left p e unread unsent s)
+      → ¬ (DoesPlan world left p e (seen_as unread unsent s))
   plan_without e is (plan.Trial t) h = trial_without e is t h.1
   plan_without e is (plan.Check path) h = sizes_without e is h.1.2.0 h.1.0 h.1.2.2
   plan_without e is (plan.Migrate path) h = moved_without e is h.1.2.0 h.1.0 h.1.2.2
@@ -191,21 +191,23 @@ module _ {D : Type 0} {g : Ghosts D} (world : World) (left : Option (FileStore D
 
   -- where its file isn't opened it reads and writes nothing
   sizes_closed : (log : Bool) (told : Result Sizes FileFault) (f : FileFault)
-      → TellsSizes log told (NotOpened f) unsent s.sent_old s.sent_new s.writer → unsent
-  sizes_closed log (Ok sizes) f h = absurd (of_line _ log _ (NotOpened f) _ _ _ h)
+      → TellsSizes log told (NotOpened f) (output_with unsent s.sent_old s.sent_new s.writer) → unsent
+  sizes_closed log (Ok sizes) f h = absurd (of_line _ log _ (NotOpened f)
+      (output_with unsent s.sent_old s.sent_new s.writer) h)
   sizes_closed log (Err why) f h = h.1
 
   moved_closed : (was_empty : Bool) (told : Result ℤ FileFault) (f : FileFault)
-      → TellsMoved was_empty told (NotOpened f) unsent s.sent_old s.sent_new s.writer → unsent
-  moved_closed was_empty (Ok version) f h = absurd (of_line _ was_empty _ (NotOpened f) _ _ _ h)
+      → TellsMoved was_empty told (NotOpened f) (output_with unsent s.sent_old s.sent_new s.writer) → unsent
+  moved_closed was_empty (Ok version) f h = absurd (of_line _ was_empty _ (NotOpened f)
+      (output_with unsent s.sent_old s.sent_new s.writer) h)
   moved_closed was_empty (Err why) f h = h.1
 
   file_closed : (path : List ℕ) (left : Option (FileStore D g)) (t : Task) (f : FileFault)
-      → EndsOnFile world path left t (NotOpened f) unread unsent s → unread × unsent
+      → EndsOnFile world path left t (NotOpened f) (seen_as unread unsent s) → unread × unsent
   file_closed path (Some it) t f h = (h.1, h.2)
   file_closed path None t f h = (h.3, h.4)
 
-  plan_closed : (p : Plan) (f : FileFault) → DoesPlan world left p (NotOpened f) unread unsent s
+  plan_closed : (p : Plan) (f : FileFault) → DoesPlan world left p (NotOpened f) (seen_as unread unsent s)
       → unread × unsent
   plan_closed (plan.Trial t) f h = absurd h.1
   plan_closed (plan.Check path) f h = (h.0, sizes_closed h.1.2.0 h.1.0 f h.1.2.2)
@@ -214,11 +216,11 @@ module _ {D : Type 0} {g : Ghosts D} (world : World) (left : Option (FileStore D
 
   -- where the vault refuses it reads nothing
   file_refused : (path : List ℕ) (left : Option (FileStore D g)) (t : Task) (n : ℕ)
-      → EndsOnFile world path left t (Refused n) unread unsent s → unread
-  file_refused path (Some it) t n h = unread_by (outside_in world) unread unsent s t _ h.broken n h.done
+      → EndsOnFile world path left t (Refused n) (seen_as unread unsent s) → unread
+  file_refused path (Some it) t n h = unread_by (outside_in world) unread unsent s t _ n h.done
   file_refused path None t n h = h.3
 
-  plan_refused : (p : Plan) (n : ℕ) → DoesPlan world left p (Refused n) unread unsent s → unread
+  plan_refused : (p : Plan) (n : ℕ) → DoesPlan world left p (Refused n) (seen_as unread unsent s) → unread
   plan_refused (plan.Trial t) n h = absurd h.1
   plan_refused (plan.Check path) n h = h.0
   plan_refused (plan.Migrate path) n h = h.0
@@ -226,18 +228,20 @@ module _ {D : Type 0} {g : Ghosts D} (world : World) (left : Option (FileStore D
 
   -- only a batch is refused in part
   sizes_part : (log : Bool) (told : Result Sizes FileFault)
-      → ¬ (TellsSizes log told SomeRefused unsent s.sent_old s.sent_new s.writer)
-  sizes_part log (Ok sizes) h = of_line _ log _ SomeRefused _ _ _ h
+      → ¬ (TellsSizes log told SomeRefused (output_with unsent s.sent_old s.sent_new s.writer))
+  sizes_part log (Ok sizes) h = of_line _ log _ SomeRefused
+      (output_with unsent s.sent_old s.sent_new s.writer) h
   sizes_part log (Err why) h = let is = h.0 in absurd (cc (is))
 
   moved_part : (was_empty : Bool) (told : Result ℤ FileFault)
-      → ¬ (TellsMoved was_empty told SomeRefused unsent s.sent_old s.sent_new s.writer)
-  moved_part was_empty (Ok version) h = of_line _ was_empty _ SomeRefused _ _ _ h
+      → ¬ (TellsMoved was_empty told SomeRefused (output_with unsent s.sent_old s.sent_new s.writer))
+  moved_part was_empty (Ok version) h = of_line _ was_empty _ SomeRefused
+      (output_with unsent s.sent_old s.sent_new s.writer) h
   moved_part was_empty (Err why) h = let is = h.0 in absurd (cc (is))
 
   file_part : (path : List ℕ) (left : Option (FileStore D g)) (t : Task)
-      → EndsOnFile world path left t SomeRefused unread unsent s → IsOfRows t
-  file_part path (Some it) t h = rows_of (outside_in world) unread unsent s t _ h.broken h.done.works
+      → EndsOnFile world path left t SomeRefused (seen_as unread unsent s) → IsOfRows t
+  file_part path (Some it) t h = rows_of (outside_in world) unread unsent s t _ h.done.works
   file_part path None t h = let is = h.1 in absurd (cc (is))
 
   -- a plan that may be refused in part is a task of rows
@@ -247,7 +251,7 @@ module _ {D : Type 0} {g : Ghosts D} (world : World) (left : Option (FileStore D
   IsPart (plan.Migrate path) = ⊥
   IsPart (plan.Do path t) = IsOfRows t
 
-  plan_part : (p : Plan) → DoesPlan world left p SomeRefused unread unsent s → IsPart p
+  plan_part : (p : Plan) → DoesPlan world left p SomeRefused (seen_as unread unsent s) → IsPart p
   plan_part (plan.Trial t) h = absurd h.1
   plan_part (plan.Check path) h = absurd (sizes_part h.1.2.0 h.1.0 h.1.2.2)
   plan_part (plan.Migrate path) h = absurd (moved_part h.1.2.0 h.1.0 h.1.2.2)
@@ -261,7 +265,7 @@ module _ {D : Type 0} {g : Ghosts D} (world : World) (left : Option (FileStore D
 
   -- with a status of 2 or 3 nothing was read, and nothing written by a job
   pub calm_at : (words : List Text) (ending : Ending) → (status_of ending ≡ 2) ⊎ (status_of ending ≡ 3)
-      → Does world left words ending unread unsent s → unread × unsent
+      → Does world left words ending (seen_as unread unsent s) → unread × unsent
   calm_at words BadWords at (inl (job, asked, inl (p, is, proper, h))) = absurd (plan_without BadWords tt p h)
   calm_at words BadWords at (inl (job, asked, inr (never, none, calm, silent))) = absurd never
   calm_at words BadWords at (inr (none, inl (inl (help, is), calm))) = absurd (cc (is))
@@ -291,7 +295,7 @@ module _ {D : Type 0} {g : Ghosts D} (world : World) (left : Option (FileStore D
 
   -- with 1 nothing was read, or the words ask for a batch
   pub refused_at : (words : List Text) (ending : Ending) → status_of ending ≡ 1
-      → Does world left words ending unread unsent s → unread ⊎ AsksFor words IsBatch
+      → Does world left words ending (seen_as unread unsent s) → unread ⊎ AsksFor words IsBatch
   refused_at words (Refused n) at (inl (job, asked, inl (p, is, proper, h))) = inl (plan_refused p n h)
   refused_at words (Refused n) at (inl (job, asked, inr (before, none, calm, silent))) = inl calm
   refused_at words (Refused n) at (inr (none, inl (inl (help, is), calm))) = inl calm

@@ -1,5 +1,5 @@
 -- How a job ends, and what the program says of it.
-use Rattle.std.specs.Prelude.{ℕ, ◌++◌, List, codes, decimal}
+use Rattle.std.specs.Prelude.{◌≡◌, ℕ, ◌++◌, List, codes, decimal}
 use Rattle.std.specs.Fmt.{signed_decimal}
 use Rattle.vault_schema.specs.Versions.{newest, number_of as version_number}
 use Rattle.vault_refusal.specs.Refusal.{number_of}
@@ -15,6 +15,10 @@ use Rattle.vault_app.specs.declared.note.Note.{Note}
 use Rattle.vault_app.specs.declared.note.Note.TheVariants.{Log, Made, Task}
 use Rattle.vault_app.specs.declared.placeholder.Placeholder.{Placeholder}
 use Rattle.vault_app.specs.declared.placeholder.Placeholder.TheVariants.{Caller, Merchant, Name, Right}
+use Rattle.vault_jobs.specs.Streams.{Known}
+use Rattle.vault_live.specs.Told.{Tells}
+use Rattle.vault_wire.specs.Watching.{inner_of, is_stopped}
+use Rattle.vault_wire.specs.declared.watched.Watched.{Watched}
 
 -- the exit status
 abbrev pub status_of : Ending → ℕ
@@ -81,19 +85,29 @@ not_opened_line f =
 abbrev pub stop_line : ℕ → List ℕ
 stop_line n = codes "vault: stopped " ++ decimal n ++ codes "\n"
 
+-- What is said on a stream as a run ends: nothing, so that it is as it was, or these bytes, unless it fails.
+pub record Said : Type 1 where
+  pub nothing : Type 0
+  pub bytes : List ℕ → Type 0
+
+abbrev pub said_on : {W : Type 0} → (W → Known) → Watched W → Watched W → Said
+said_on contents w w' = record {
+  nothing = w' ≡ w;
+  bytes = Tells (contents (inner_of w)) (contents (inner_of w')) (is_stopped w');
+}
+
 -- A version and a refusal are said on the output, and what else stands in the way of a job on the errors; the
 -- other stream stays as it was, and at the end of a job, and of a batch with refused rows, both do. Beside a
 -- job's line it is said what is to be noted, and beside a refusal which word is no name or no right. Behind
 -- the line of bad words it is said why they are.
-abbrev pub Says : List ℕ → Ending → Type 0 → Type 0 → (List ℕ → Type 0) → (List ℕ → Type 0) → Type 0
-Says why Done same_output same_errors output errors = same_output × same_errors
-Says why (Noted note) same_output same_errors output errors = same_output × errors (note_line note)
-Says why Version same_output same_errors output errors = output version_line × same_errors
-Says why (Refused n) same_output same_errors output errors = output (refusal_line n) × same_errors
-Says why (Misnamed placeholder) same_output same_errors output errors =
-    output (refusal_line (number_at placeholder)) × errors (placeholder_line placeholder)
-Says why SomeRefused same_output same_errors output errors = same_output × same_errors
-Says why BadWords same_output same_errors output errors = same_output × errors (bad_words_line ++ why)
-Says why (NotOpened f) same_output same_errors output errors = same_output × errors (not_opened_line f)
-Says why (Stopped s) same_output same_errors output errors =
-    same_output × errors (stop_line (number_of (refusal_of s)))
+abbrev pub Says : List ℕ → Ending → Said → Said → Type 0
+Says why Done output errors = output.nothing × errors.nothing
+Says why (Noted note) output errors = output.nothing × errors.bytes (note_line note)
+Says why Version output errors = output.bytes version_line × errors.nothing
+Says why (Refused n) output errors = output.bytes (refusal_line n) × errors.nothing
+Says why (Misnamed placeholder) output errors =
+    output.bytes (refusal_line (number_at placeholder)) × errors.bytes (placeholder_line placeholder)
+Says why SomeRefused output errors = output.nothing × errors.nothing
+Says why BadWords output errors = output.nothing × errors.bytes (bad_words_line ++ why)
+Says why (NotOpened f) output errors = output.nothing × errors.bytes (not_opened_line f)
+Says why (Stopped s) output errors = output.nothing × errors.bytes (stop_line (number_of (refusal_of s)))

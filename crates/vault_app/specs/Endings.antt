@@ -3,7 +3,7 @@ use Rattle.std.specs.Prelude.{◌≡◌, ℕ, List, Bool, true, false}
 use Rattle.std.specs.Io.KnownBytes.{Appends}
 use Rattle.vault_file.specs.declared.fault.NotOpened.{NotOpened as FileFault}
 use Rattle.vault_engine.specs.declared.stop.Stop.TheVariants as service
-use Rattle.vault_jobs.specs.Streams.{Known}
+use Rattle.vault_jobs.specs.Streams.{Output}
 use Rattle.vault_jobs.specs.declared.stop.Stop.{Stop}
 use Rattle.vault_jobs.specs.declared.stop.Stop.TheVariants as stop
 use Rattle.vault_app.specs.declared.ending.Ending.{Ending}
@@ -51,10 +51,10 @@ EndsSo it (NotOpened f) = it.not_opened f
 EndsSo it (Stopped s) = it.stopped s
 
 -- a job that is done wrote this line, or the writer failed
-abbrev pub LineEnds : List ℕ → Ending → Known → Known → Bool → Type 0
-LineEnds line ending old new writer = EndsSo (record no_ending {
-  done = (writer ≡ false) × Appends old new line;
-  stopped = λ why. (why ≡ stop.Service service.Write) × (writer ≡ true);
+abbrev pub LineEnds : List ℕ → Ending → Output → Type 0
+LineEnds line ending out = EndsSo (record no_ending {
+  done = (out.writer ≡ false) × Appends out.sent_old out.sent_new line;
+  stopped = λ why. (why ≡ stop.Service service.Write) × (out.writer ≡ true);
 }) ending
 
 -- the end of a job whose line ended so: where it is done and there is this to note, it tells of that
@@ -63,6 +63,6 @@ beside true note Done = Noted note
 beside noted note ending = ending
 
 -- so a job ends that is done and wrote this line, with this note, or none; or the writer failed
-abbrev pub NotedLineEnds : List ℕ → Bool → Note → Ending → Known → Known → Bool → Type 0
-NotedLineEnds text noted note ending old new writer =
-    (line : Ending) × LineEnds text line old new writer × (ending ≡ beside noted note line)
+abbrev pub NotedLineEnds : List ℕ → Bool → Note → Ending → Output → Type 0
+NotedLineEnds text noted note ending out =
+    (line : Ending) × LineEnds text line out × (ending ≡ beside noted note line)

@@ -18,22 +18,17 @@ pub record World : Type 1 where
   pub says : List ℕ → List ℕ → Type 0
   pub logs : List ℕ → Bool → Type 0
 
-abbrev pub world_of : Turns → (List ℕ → Looks) → (List ℕ → Image → Type 0) → (List ℕ → Type 0)
-    → (List ℕ → Type 0) → (List ℕ → List ℕ → Type 0) → (List ℕ → Bool → Type 0) → World
-world_of tells looks holds lacks refuses says logs = record {
-  tells = tells;
-  looks = looks;
-  holds = holds;
-  lacks = lacks;
-  refuses = refuses;
-  says = says;
-  logs = logs;
-}
-
 -- what is told of the paths of a host
 abbrev pub world_at : {P D : Type 0} → Ghosts P D → Turns → (List ℕ → Looks) → P → World
-world_at g tells looks paths = world_of tells looks (g.holds paths) (g.lacks paths) (g.refuses paths)
-    (g.says paths) (g.logs paths)
+world_at g tells looks paths = record {
+  tells = tells;
+  looks = looks;
+  holds = g.holds paths;
+  lacks = g.lacks paths;
+  refuses = g.refuses paths;
+  says = g.says paths;
+  logs = g.logs paths;
+}
 
 -- what of it is told to a task while it is done
 abbrev pub outside_in : World → Outside

@@ -1,8 +1,8 @@
 //! The line that a job ends with.
 ghost use Rattle.std.specs.Prelude.{◌≡◌};
 ghost use Rattle.std.specs.List.{flat_map};
-ghost use Rattle.vault_wire.specs.Watching.{inner_of, is_stopped};
 ghost use Rattle.vault_app.specs.Endings.{LineEnds, beside};
+ghost use Rattle.vault_jobs.specs.Streams.{output_of};
 
 use crate::ending::Ending;
 use crate::note::Note;
@@ -13,8 +13,8 @@ use vault_wire::watched::Watched;
 
 /// Writes the line of a job that is done, part by part, and hands it on. 62 Write: the writer failed.
 pub(crate) fn end_with<W: Write>(output: &mut Watched<W>, parts: &[&str]) -> Ending
-    ensures { LineEnds (flat_map (λ part. part.now) parts.now) result (W.contents (inner_of output.old))
-        (W.contents (inner_of output.new)) (is_stopped output.new) }
+    ensures { LineEnds (flat_map (λ part. part.now) parts.now) result
+        (output_of W.contents output.old output.new) }
 {
     match answer(output, parts) {
         Ok(()) => Ending::Done,

@@ -1,8 +1,7 @@
 //! What is done with the vault in a file.
-ghost use Rattle.std.specs.Prelude.{◌≡◌, ◌++◌, IsTrue, List, Option, Result};
-ghost use Rattle.vault_listen.specs.Peers.{Event};
-ghost use Rattle.vault_live.specs.Turns.{Turn, events_in};
-ghost use Rattle.vault_jobs.specs.Streams.{Streams, streams, with_turns};
+ghost use Rattle.std.specs.Prelude.{◌≡◌, IsTrue, List, Option, Result};
+ghost use Rattle.vault_live.specs.Turns.{TellsTurns, Turn};
+ghost use Rattle.vault_jobs.specs.Streams.{Seen, seen_over, seen_with};
 ghost use Rattle.vault_jobs.specs.Tasks.{IsProper};
 ghost use Rattle.vault_app.specs.Files.{EndsOnFile, IsShow, ending_for};
 ghost use Rattle.vault_app.specs.World.{World, world_at};
@@ -79,11 +78,10 @@ pub(crate) fn do_on_file<P: Paths, K: Timekeeper, N: Network, D: Desk, R: Read, 
     // by how it ends: what was done with the vault in the files, or why they weren't opened, and which files
     // are left
     ensures does { let world : World = world_at P.Paths (K.tells time.now) (D.says desk.now) paths in
-        let s : Streams = streams R.remaining input.old input.new W.contents output.old output.new in
+        let v : Seen = seen_over R.remaining input.old input.new W.contents output.old output.new in
         (turns : List Turn)
-        × ((log : List Event) → N.tells network.old log → N.tells network.new (log ++ events_in turns))
-        × EndsOnFile world path.now result.1 task.now result.0 (input.new ≡ input.old)
-        (output.new ≡ output.old) (with_turns s turns) }
+        × TellsTurns (N.tells network.old) (N.tells network.new) turns
+        × EndsOnFile world path.now result.1 task.now result.0 (seen_with v turns) }
 {
     if only_shows(task) {
         match paths.is_empty(rt, path) {

@@ -1,7 +1,7 @@
 //! What the program says of an ending.
 ghost use Rattle.std.specs.Prelude.{◌≡◌, ◌++◌, codes, decimal};
 ghost use Rattle.vault_wire.specs.Watching.{inner_of, is_stopped};
-ghost use Rattle.vault_app.specs.Ending.{Says, not_opened_line, status_of, version_line};
+ghost use Rattle.vault_app.specs.Ending.{Says, not_opened_line, said_on, status_of, version_line};
 ghost use Rattle.vault_live.specs.Told.{Tells};
 
 use crate::ending::Ending;
@@ -74,11 +74,8 @@ pub(crate) fn report<W: Write, E: Write>(
     ensures status { result ≡ status_of ending.now }
     // the output says a version or a refusal, the errors any other obstacle, a note, or which word is no
     // name or right, unless the writer fails; all else stays
-    ensures said { Says why.now ending.now (output.new ≡ output.old) (errors.new ≡ errors.old)
-        (Tells (W.contents (inner_of output.old)) (W.contents (inner_of output.new))
-        (is_stopped output.new))
-        (Tells (E.contents (inner_of errors.old)) (E.contents (inner_of errors.new))
-        (is_stopped errors.new)) }
+    ensures said { Says why.now ending.now (said_on W.contents output.old output.new)
+        (said_on E.contents errors.old errors.new) }
 {
     match ending {
         Ending::Done => 0,

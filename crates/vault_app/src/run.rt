@@ -1,16 +1,15 @@
 //! The program, but for what the process gives it.
-ghost use Rattle.std.specs.Prelude.{◌≡◌, ◌≢◌, ◌↔◌, ◌⊎◌, ◌++◌, IfErr, IfOk, List, Option, map};
+ghost use Rattle.std.specs.Prelude.{◌≡◌, ◌≢◌, ◌↔◌, ◌⊎◌, IfErr, IfOk, List, Option, map};
 ghost use Rattle.std.specs.Prelude.{string_bytes};
 ghost use Rattle.std.specs.IoError.{error_kind};
 ghost use Rattle.vault_wire.specs.Watching.{inner_of, is_stopped};
 ghost use Rattle.vault_wire.specs.declared.watched.Watched.{Watched};
-ghost use Rattle.vault_listen.specs.Peers.{Event};
-ghost use Rattle.vault_live.specs.Turns.{Turn, events_in};
-ghost use Rattle.vault_jobs.specs.Streams.{Streams, streams, with_turns};
+ghost use Rattle.vault_live.specs.Turns.{TellsTurns, Turn};
+ghost use Rattle.vault_jobs.specs.Streams.{Seen, seen_over, seen_with};
 ghost use Rattle.vault_live.specs.Told.{Tells};
 ghost use Rattle.vault_words.specs.Why.{HasFewDigits};
-ghost use Rattle.vault_app.specs.Ending.{bad_words_line, note_line, placeholder_line, stop_line};
-ghost use Rattle.vault_app.specs.Jobs.{Does, DoesPlan, RunsAs};
+ghost use Rattle.vault_app.specs.Ending.{bad_words_line, note_line, placeholder_line, said_on, stop_line};
+ghost use Rattle.vault_app.specs.Jobs.{Does, DoesPlan, DoesRun};
 ghost use Rattle.vault_app.specs.Plans.{EndsPlanless, IsMisnamed, IsPlanOf, IsProperPlan};
 ghost use Rattle.vault_app.specs.Asked.{AsksFor, IsBatch};
 ghost use Rattle.vault_app.specs.Notes.{MayNote};
@@ -102,11 +101,10 @@ fn carry_out<P: Paths, K: Timekeeper, N: Network, D: Desk, R: Read, W: Write>(
     // by how it ends: what the plan did with the files at its path, which are left, and what was read and
     // sent
     ensures does { let world : World = world_at P.Paths (K.tells time.now) (D.says desk.now) paths in
-        let s : Streams = streams R.remaining input.old input.new W.contents output.old output.new in
+        let v : Seen = seen_over R.remaining input.old input.new W.contents output.old output.new in
         (turns : List Turn)
-        × ((log : List Event) → N.tells network.old log → N.tells network.new (log ++ events_in turns))
-        × DoesPlan world result.1 plan.entry result.0
-        (input.new ≡ input.old) (output.new ≡ output.old) (with_turns s turns) }
+        × TellsTurns (N.tells network.old) (N.tells network.new) turns
+        × DoesPlan world result.1 plan.entry result.0 (seen_with v turns) }
 {
     match plan {
         Plan::Trial(trial) => (trial::serve(rt, time, &trial, input, output), None),
@@ -142,11 +140,10 @@ fn ended<P: Paths, K: Timekeeper, N: Network, D: Desk, A: AsStr, R: Read, W: Wri
 ) -> (Conclusion, Option<FileStore<P::Disk>>)
     // by how it ends: what the words' job did with its files, which are left, and what was read and sent
     ensures does { let world : World = world_at P.Paths (K.tells time.now) (D.says desk.now) paths in
-        let s : Streams = streams R.remaining input.old input.new W.contents output.old output.new in
+        let v : Seen = seen_over R.remaining input.old input.new W.contents output.old output.new in
         (turns : List Turn)
-        × ((log : List Event) → N.tells network.old log → N.tells network.new (log ++ events_in turns))
-        × Does world result.1 (map A.text words.now) result.0.ending
-        (input.new ≡ input.old) (output.new ≡ output.old) (with_turns s turns) }
+        × TellsTurns (N.tells network.old) (N.tells network.new) turns
+        × Does world result.1 (map A.text words.now) result.0.ending (seen_with v turns) }
     // what is said of the words shows fewer than ten digits, too few for a card number
     ensures few { HasFewDigits (string_bytes result.0.why) }
 {
@@ -184,10 +181,10 @@ pub fn run<P: Paths, K: Timekeeper, N: Network, D: Desk, A: AsStr, R: Read, W: W
     // what it said then
     ensures does { let world : World = world_at P.Paths (K.tells time.now) (D.says desk.now) paths in
         (told : Watched W) × (turns : List Turn)
-        × ((log : List Event) → N.tells network.old log → N.tells network.new (log ++ events_in turns))
-        × RunsAs R.remaining W.contents E.contents world result.1
-        (map A.text words.now) result.0 turns input.old input.new output.old told output.new errors.old
-        errors.new }
+        × TellsTurns (N.tells network.old) (N.tells network.new) turns
+        × (let v : Seen = seen_over R.remaining input.old input.new W.contents output.old told in
+        DoesRun world (map A.text words.now) result (seen_with v turns)
+        (said_on W.contents told output.new) (said_on E.contents errors.old errors.new)) }
     // the status is 0, 1, 2, 3 or 4
     ensures status { (result.0 ≡ 0) ⊎ (result.0 ≡ 1) ⊎ (result.0 ≡ 2) ⊎ (result.0 ≡ 3) ⊎ (result.0 ≡ 4) }
     // with status 1, nothing went out on the errors, or which word of a job is no name or no right
@@ -203,8 +200,7 @@ pub fn run<P: Paths, K: Timekeeper, N: Network, D: Desk, A: AsStr, R: Read, W: W
     // with status 2 or 3, the input is unread
     ensures unread { (result.0 ≡ 2) ⊎ (result.0 ≡ 3) → input.new ≡ input.old }
     // with status 1, the input is unread, unless the words ask for a batch
-    ensures unread_refused { result.0 ≡ 1
-        → (input.new ≡ input.old) ⊎ AsksFor (map A.text words.now) IsBatch }
+    ensures unread_refused { result.0 ≡ 1 → (input.new ≡ input.old) ⊎ AsksFor (map A.text words.now) IsBatch }
     // with status 2 or 3, nothing went out on the output
     ensures unsent { (result.0 ≡ 2) ⊎ (result.0 ≡ 3) → output.new ≡ output.old }
 {

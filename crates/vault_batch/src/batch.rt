@@ -1,9 +1,8 @@
 //! The rows of a batch answered, each before the next one is read.
 ghost use Rattle.std.specs.Prelude.{◌≡◌, ◌⊎◌, [], true, false, Err, IfErr, IfOk, OnOk, Option};
 ghost use Rattle.std.specs.Io.KnownBytes.{IsAtEnd};
-ghost use Rattle.vault_engine.specs.Passing.{Passage, passing};
-ghost use Rattle.vault_engine.specs.Stops.{NeverFails, failures};
-ghost use Rattle.vault_store.specs.Applied.{is_broken, tables_of};
+ghost use Rattle.vault_engine.specs.Passing.{Passage, giving, passage, sending};
+ghost use Rattle.vault_engine.specs.Stops.{Trusts, failures, failures_unread};
 ghost use Rattle.vault_wire.specs.Watching.{inner_of, is_stopped};
 ghost use Rattle.vault_core.specs.Keys.{Bytes};
 ghost use Rattle.vault_batch.specs.Faults.{Tells};
@@ -74,23 +73,20 @@ fn answer_rows<R: Read, W: Write, T: Tables, S: Source>(
 ) -> Result<Counts, BatchFault>
     // Ok counts the input's rows, where it is known; on an honest disk, all are answered and the vault after
     // them is kept
-    ensures batched { let w : Passage = passing S.given source.old source.new W.contents writer.old writer.new
-        T.is_honest T.holds T.leaves vault.old vault.new in
+    ensures batched { let w : Passage = sending W.contents writer.old writer.new
+        (giving S.given source.old source.new (passage T.Tables vault.old vault.new)) in
         IfOk result (IsBatched (R.remaining (inner_of reader.old)) w asker.now) }
     // the fault says at which row it stopped, and what went out and is kept then
-    ensures stopped { let w : Passage = passing S.given source.old source.new W.contents writer.old writer.new
-        T.is_honest T.holds T.leaves vault.old vault.new in
+    ensures stopped { let w : Passage = sending W.contents writer.old writer.new
+        (giving S.given source.old source.new (passage T.Tables vault.old vault.new)) in
         IfErr result (Stops (R.remaining (inner_of reader.old)) w asker.now) }
     // Source, Write and Store tell that this one has failed; whether the others have stays as it was
     ensures own_failure { Tells result
-        (failures (S.has_refused source.old) false (is_stopped writer.old) (is_broken vault.old))
-        (failures (S.has_refused source.new) false (is_stopped writer.new) (is_broken vault.new)) }
+        (failures_unread (S.has_refused source.old) writer.old vault.old)
+        (failures_unread (S.has_refused source.new) writer.new vault.new) }
     // the source is the same, further on
     ensures later { S.precedes source.old source.new }
-    // tables that can't fail give an unbroken vault no Store fault
-    ensures infallible { NeverFails T.may_fail vault.old (result ≡ Err BatchFault.Store) }
-    // a disk that is honest after the call was so before it
-    ensures disk_honest { T.is_honest (tables_of vault.new) → T.is_honest (tables_of vault.old) }
+    ensures trusted { Trusts T.Tables vault.old vault.new (result ≡ Err BatchFault.Store) }
 {
     let mut records = records_of(alloc, &mut *reader);
     let mut fields = ByteRecord::new(alloc);
@@ -163,8 +159,8 @@ pub fn batch<R: Read, W: Write, T: Tables, S: Source>(
 ) -> Result<Counts, BatchFault>
     // Ok counts the input's rows, where it is known; on an honest disk, all are answered and the vault after
     // them is kept
-    ensures batched { let w : Passage = passing S.given source.old source.new W.contents writer.old writer.new
-        T.is_honest T.holds T.leaves vault.old vault.new in
+    ensures batched { let w : Passage = sending W.contents writer.old writer.new
+        (giving S.given source.old source.new (passage T.Tables vault.old vault.new)) in
         let who : Asking = record { caller = caller; merchant = merchant } in
         IfOk result (IsBatched (R.remaining (inner_of reader.old)) w who) }
     // with Ok, no byte of the input is left, where it is known
@@ -172,22 +168,19 @@ pub fn batch<R: Read, W: Write, T: Tables, S: Source>(
     // with Ok, the reader hasn't failed
     ensures reader_ok { OnOk result (is_stopped reader.new ≡ false) }
     // the fault says at which row it stopped, and what went out and is kept then
-    ensures stopped { let w : Passage = passing S.given source.old source.new W.contents writer.old writer.new
-        T.is_honest T.holds T.leaves vault.old vault.new in
+    ensures stopped { let w : Passage = sending W.contents writer.old writer.new
+        (giving S.given source.old source.new (passage T.Tables vault.old vault.new)) in
         let who : Asking = record { caller = caller; merchant = merchant } in
         IfErr result (Stops (R.remaining (inner_of reader.old)) w who) }
     // with Read the reader has failed
     ensures read { result ≡ Err BatchFault.Read → is_stopped reader.new ≡ true }
     // Source, Write and Store tell that this one has failed; whether the others have stays as it was
     ensures own_failure { Tells result
-        (failures (S.has_refused source.old) false (is_stopped writer.old) (is_broken vault.old))
-        (failures (S.has_refused source.new) false (is_stopped writer.new) (is_broken vault.new)) }
+        (failures_unread (S.has_refused source.old) writer.old vault.old)
+        (failures_unread (S.has_refused source.new) writer.new vault.new) }
     // the source is the same, further on
     ensures later { S.precedes source.old source.new }
-    // tables that can't fail give an unbroken vault no Store fault
-    ensures infallible { NeverFails T.may_fail vault.old (result ≡ Err BatchFault.Store) }
-    // a disk that is honest after the call was so before it
-    ensures disk_honest { T.is_honest (tables_of vault.new) → T.is_honest (tables_of vault.old) }
+    ensures trusted { Trusts T.Tables vault.old vault.new (result ≡ Err BatchFault.Store) }
 {
     let asker = Asker { caller, merchant };
     match answer_rows(alloc, reader, writer, vault, &asker, source) {

@@ -50,7 +50,7 @@ abbrev pub settings_at : ℕ → List Wanted → List Named → List Command
 settings_at now rows held = wanted_at now (missing_merchants rows held)
 
 -- The first commands are done that set the wanted merchants, or the merchants that are held weren't read.
-abbrev pub Sets : ℕ → List Wanted → Passage → Bool → Fault → Type 0
-Sets now rows w broken f = ((cs : List Command)
+abbrev pub Sets : ℕ → List Wanted → Passage → Fault → Type 0
+Sets now rows w f = ((cs : List Command)
     × ((V : Content) → IsBefore w V → cs ≡ settings_at now rows (merchant_rows V))
-    × CarriesAll cs w broken (Err f)) ⊎ FailsToRead w broken f
+    × CarriesAll cs w (Err f)) ⊎ FailsToRead w f

@@ -1,14 +1,14 @@
 //! The moments of a vault's merchants, and how they stand to the clock's.
 ghost use Rattle.std.specs.Prelude.{◌≡◌, Err, IfErr, IfOk, Option, false, option_map};
 ghost use Rattle.vault_core.specs.Vault.{Vault as Content};
-ghost use Rattle.vault_store.specs.Applied.{is_broken, tables_of};
-ghost use Rattle.vault_engine.specs.Passing.{IsBefore, Keeps, Passage};
-ghost use Rattle.vault_listen.specs.Peers.{vault_passing};
+ghost use Rattle.vault_store.specs.Applied.{is_broken};
+ghost use Rattle.vault_engine.specs.Passing.{IsBefore, Keeps, Passage, passage};
 ghost use Rattle.vault_changes.specs.Failing.{BreaksByStore};
 ghost use Rattle.vault_changes.specs.Moments.{is_far_ahead as is_far_ahead_of};
 ghost use Rattle.vault_changes.specs.Moments.{is_far_behind as is_far_behind_of};
 ghost use Rattle.vault_changes.specs.Moments.{moment_in};
 ghost use Rattle.vault_changes.specs.Settling.{FailsToRead};
+ghost use Rattle.vault_store.specs.LookUps.{WasHonest};
 
 use vault_core::moment::Moment;
 use vault_core::name::MerchantId;
@@ -50,21 +50,15 @@ pub fn moment_of<T: Tables>(
     vault: &mut Vault<T>,
     merchant: MerchantId,
 ) -> Result<Option<Moment>, Fault>
-    // the vault isn't broken
-    requires { is_broken vault.old ≡ false }
+    requires unbroken { is_broken vault.old ≡ false }
     // on an honest disk, Ok says it of each vault that was held, and that one is held still, after a crash
     // too
-    ensures told { let w : Passage = vault_passing T.is_honest T.holds T.leaves vault.old vault.new in
+    ensures told { let w : Passage = passage T.Tables vault.old vault.new in
         IfOk result (λ moment. (V : Content) → IsBefore w V
         → (moment ≡ moment_in V merchant) × Keeps w V) }
-    // on an honest disk, Memory keeps a vault that was held, and Store breaks it, but a crash leaves it;
-    // Reopen never comes
-    ensures failed { let w : Passage = vault_passing T.is_honest T.holds T.leaves vault.old vault.new in
-        IfErr result (FailsToRead w (is_broken vault.new)) }
-    // the vault is broken after Store only
+    ensures failed { IfErr result (FailsToRead (passage T.Tables vault.old vault.new)) }
     ensures broken { BreaksByStore vault.new result }
-    // a disk that is honest after the call was so before it
-    ensures disk_honest { T.is_honest (tables_of vault.new) → T.is_honest (tables_of vault.old) }
+    ensures disk_honest { WasHonest T.Tables vault.old vault.new }
 {
     match vault.merchant(merchant) {
         Ok(row) => Ok(moment_in_row(row)),

@@ -1,15 +1,15 @@
 //! What makes the merchants of a list those of a vault. No merchant is ever removed.
-ghost use Rattle.std.specs.Prelude.{◌≡◌, ◌++◌, All, Err, IfErr, IfOk, Ok, OnOk, false, true};
+ghost use Rattle.std.specs.Prelude.{◌≡◌, ◌++◌, All, Err, IfErr, IfOk, Ok, OnOk, false};
 ghost use Rattle.vault_core.specs.Vault.{Vault as Content};
-ghost use Rattle.vault_store.specs.Applied.{is_broken, tables_of};
+ghost use Rattle.vault_store.specs.Applied.{is_broken};
 ghost use Rattle.vault_store.specs.Listed.{merchant_rows};
-ghost use Rattle.vault_engine.specs.Passing.{IsBefore, Keeps, Passage};
-ghost use Rattle.vault_listen.specs.Peers.{vault_passing};
+ghost use Rattle.vault_engine.specs.Passing.{IsBefore, Keeps, Passage, passage};
 ghost use Rattle.vault_changes.specs.Carried.{IsCarriedOut};
 ghost use Rattle.vault_changes.specs.Failing.{BreaksByStore};
 ghost use Rattle.vault_changes.specs.Grants.{CarriesAll};
 ghost use Rattle.vault_changes.specs.Settings.{HasLives, Sets, setting_at, settings_at};
 ghost use Rattle.vault_changes.specs.Settling.{FailsToRead};
+ghost use Rattle.vault_store.specs.LookUps.{WasHonest};
 
 use crate::carry::carry_all;
 use crate::merchant_keys::{merchant_keys, stands};
@@ -72,23 +72,17 @@ pub fn settings_to<T: Tables>(
     rows: &[ListedMerchant],
     now: Moment,
 ) -> Result<Vec<Command>, Fault>
-    // the vault isn't broken
-    requires { is_broken vault.old ≡ false }
+    requires unbroken { is_broken vault.old ≡ false }
     // with Ok, on an honest disk, these set what each vault that was held lacks, and that one is kept
-    ensures found { let w : Passage = vault_passing T.is_honest T.holds T.leaves vault.old vault.new in
+    ensures found { let w : Passage = passage T.Tables vault.old vault.new in
         IfOk result (λ it. (V : Content) → IsBefore w V
         → (it.items ≡ settings_at now rows.now (merchant_rows V)) × Keeps w V) }
     // with Ok, where the lives of the list are lives, every vault replies to each command by done or a
     // refusal, and lives that it sets are in range
     ensures carried { All HasLives rows.now → IfOk result (λ it. All IsCarriedOut it.items) }
-    // on an honest disk, Memory keeps a vault that was held, and Store breaks it, but a crash leaves it;
-    // Reopen never comes
-    ensures failed { let w : Passage = vault_passing T.is_honest T.holds T.leaves vault.old vault.new in
-        IfErr result (FailsToRead w (is_broken vault.new)) }
-    // the vault is broken after Store only
+    ensures failed { IfErr result (FailsToRead (passage T.Tables vault.old vault.new)) }
     ensures broken { BreaksByStore vault.new result }
-    // a disk that is honest after the call was so before it
-    ensures disk_honest { T.is_honest (tables_of vault.new) → T.is_honest (tables_of vault.old) }
+    ensures disk_honest { WasHonest T.Tables vault.old vault.new }
 {
     let held = vault.merchants()?;
     match settings_of(alloc, rows, held.as_slice(), now) {
@@ -112,21 +106,17 @@ pub fn set_merchants<T: Tables>(
     requires lives { All HasLives rows.now }
     requires unbroken { is_broken vault.old ≡ false }
     // with Ok, on an honest disk, these set what each vault that was held lacks
-    ensures changes { let w : Passage = vault_passing T.is_honest T.holds T.leaves vault.old vault.new in
-        IfOk result (λ it. (V : Content) → IsBefore w V
+    ensures changes { IfOk result (λ it. (V : Content) → IsBefore (passage T.Tables vault.old vault.new) V
         → it.1.items ≡ settings_at now rows.now (merchant_rows V)) }
     // with Ok, on an honest disk, all are done up to one that is refused, and the vault that they leave is
     // kept
-    ensures carried { let w : Passage = vault_passing T.is_honest T.holds T.leaves vault.old vault.new in
-        IfOk result (λ it. CarriesAll it.1.items w (is_broken vault.new) (Ok it.0)) }
+    ensures carried { IfOk result (λ it. CarriesAll it.1.items (passage T.Tables vault.old vault.new)
+        (Ok it.0)) }
     // on an honest disk, what was done is kept, and after Store a crash decides on the next; or the merchants
     // weren't read
-    ensures failed { let w : Passage = vault_passing T.is_honest T.holds T.leaves vault.old vault.new in
-        IfErr result (Sets now rows.now w (is_broken vault.new)) }
-    // the vault is broken after Store only
+    ensures failed { IfErr result (Sets now rows.now (passage T.Tables vault.old vault.new)) }
     ensures broken { BreaksByStore vault.new result }
-    // a disk that is honest after the call was so before it
-    ensures disk_honest { T.is_honest (tables_of vault.new) → T.is_honest (tables_of vault.old) }
+    ensures disk_honest { WasHonest T.Tables vault.old vault.new }
 {
     let commands = settings_to(alloc, vault, rows, now)?;
     match carry_all(vault, &AsTheyStand, commands.as_slice()) {

@@ -2,12 +2,16 @@
 use Rattle.std.specs.Prelude.{◌≡◌, ◌⊎◌, [], ◌∷◌, Bool, true, false, Result, Ok, Err}
 use Rattle.vault_core.specs.Vault.{Vault as Content}
 use Rattle.vault_core.specs.declared.reply.Reply.{Reply}
-use Rattle.vault_store.specs.Applied.{is_broken, tables_of}
+use Rattle.vault_store.specs.Applied.{is_broken}
+use Rattle.vault_wire.specs.Watching.{is_stopped}
+use Rattle.vault_wire.specs.declared.watched.Watched.{Watched}
 use Rattle.vault_store.specs.declared.vault.Vault.{Vault}
 use Rattle.vault_engine.specs.Answered.{Answered, AnsweredBefore, CutAt, SilentAt, UndecidedAt}
 use Rattle.vault_engine.specs.Asking.{Asked, Kind, reply_to}
 use Rattle.vault_engine.specs.Passing.{IsBefore, Passage}
 use Rattle.vault_engine.specs.declared.stop.Stop.{Stop}
+use Rattle.vault_store.specs.LookUps.{WasHonest}
+use Rattle.vault_store.specs.declared.tables.Tables.{Ghosts}
 use Rattle.vault_engine.specs.declared.stop.Stop.TheVariants as stop
 
 -- what was seen of the one unit at which asking stopped
@@ -34,7 +38,15 @@ pub record Failures : Type 0 where
 abbrev pub failures : Bool → Bool → Bool → Bool → Failures
 failures s r w v = record { source = s; reader = r; writer = w; vault = v }
 
--- it stops exactly where its own one fails: that one has failed now, and all else is as it was
+-- those of a source, a reader, a writer and a vault
+abbrev pub failures_of : {R W T : Type 0} → Bool → Watched R → Watched W → Vault T → Failures
+failures_of refused r w v = failures refused (is_stopped r) (is_stopped w) (is_broken v)
+
+-- those where nothing is read
+abbrev pub failures_unread : {W T : Type 0} → Bool → Watched W → Vault T → Failures
+failures_unread refused w v = failures refused false (is_stopped w) (is_broken v)
+
+-- a stop but Memory tells which of the four has failed; all else stays as it was
 abbrev pub Tells : {X : Type 0} → Result X Stop → Failures → Failures → Type 0
 Tells (Ok x) old new = new ≡ old
 Tells (Err stop.Source) old new = new ≡ record old { source = true }
@@ -43,12 +55,11 @@ Tells (Err stop.Write) old new = new ≡ record old { writer = true }
 Tells (Err stop.Store) old new = new ≡ record old { vault = true }
 Tells (Err stop.Memory) old new = new ≡ old
 
--- an honest disk was honest before, and tables that can't fail don't
-pub record Trusts {T X : Type 0} (is_honest : T → Type 0) (may_fail : Bool) (old new : Vault T)
-    (r : Result X Stop) : Type 0 where
-  pub disk_honest : is_honest (tables_of new) → is_honest (tables_of old)
-  pub infallible : may_fail ≡ false → is_broken old ≡ false → ¬ (r ≡ Err stop.Store)
-
 -- over tables that can't fail, a vault that wasn't broken never comes to this
 abbrev pub NeverFails : {T : Type 0} → Bool → Vault T → Type 0 → Type 0
 NeverFails may_fail old Is = may_fail ≡ false → is_broken old ≡ false → ¬ Is
+
+-- an honest disk was honest before, and tables that can't fail don't
+pub record Trusts {T : Type 0} (g : Ghosts T) (old new : Vault T) (Fails : Type 0) : Type 0 where
+  pub disk_honest : WasHonest g old new
+  pub infallible : NeverFails g.may_fail old Fails

@@ -4,11 +4,10 @@ ghost use Rattle.vault_core.specs.Proper.{HasLivesInRange};
 ghost use Rattle.vault_core.specs.Table.{after, reply as reply_lem};
 ghost use Rattle.vault_core.specs.Vault.{Vault as Content};
 ghost use Rattle.vault_store.specs.Applied.{Contains, is_broken, tables_of};
-ghost use Rattle.vault_wire.specs.Watching.{is_stopped};
-ghost use Rattle.vault_engine.specs.Asking.{Wanted, kind, left_by};
+ghost use Rattle.vault_engine.specs.Asking.{Wanted, kind};
 ghost use Rattle.vault_engine.specs.Deciding.{Decided, StandsFor, Undecided, reply_in};
-ghost use Rattle.vault_engine.specs.Passing.{Passage, passing};
-ghost use Rattle.vault_engine.specs.Stops.{IsAnswered, StopsAt, Tells, Trusts, failures};
+ghost use Rattle.vault_engine.specs.Passing.{Passage, giving, passage, sending};
+ghost use Rattle.vault_engine.specs.Stops.{IsAnswered, StopsAt, Tells, Trusts, failures, failures_unread};
 
 use crate::stop::Stop;
 use crate::unit::Unit;
@@ -52,13 +51,11 @@ fn apply<T: Tables>(vault: &mut Vault<T>, command: &Command) -> Result<Reply, St
     ensures only { IfErr result (λ e. (e ≡ Stop.Memory) ⊎ (e ≡ Stop.Store)) }
     // the vault is broken exactly after Store
     ensures broken { (result ≡ Err Stop.Store) ↔ (is_broken vault.new ≡ true) }
-    // the stop's own one of source, reader, writer and vault has failed; whether the others have stays as it
-    // was
+    // a stop but Memory tells which of source, reader, writer and vault has failed; all else stays as it was
     ensures own_failure { Tells result
         (failures false false false (is_broken vault.old))
         (failures false false false (is_broken vault.new)) }
-    // an honest disk was honest before, and tables that can't fail don't
-    ensures trusted { Trusts T.is_honest T.may_fail vault.old vault.new result }
+    ensures trusted { Trusts T.Tables vault.old vault.new (result ≡ Err Stop.Store) }
 {
     match vault.apply(command) {
         Ok(reply) => Ok(reply),
@@ -80,7 +77,7 @@ fn decide<U: Unit, T: Tables>(
     // after it is held
     ensures ok { IfOk result (λ outcome. Decided (kind (U.wants unit.now) U.text) (U.shown unit.now)
         (now, digits) outcome
-        (T.is_honest (tables_of vault.new)) (Contains T.holds vault.old) (Contains T.holds vault.new)) }
+        (passage T.Tables vault.old vault.new)) }
     // where memory was refused, the vault stays
     ensures memory { result ≡ Err Stop.Memory
         → (V : Content) → Contains T.holds vault.old V → Contains T.holds vault.new V }
@@ -88,16 +85,14 @@ fn decide<U: Unit, T: Tables>(
     // before or after it
     ensures store { result ≡ Err Stop.Store
         → Undecided (kind (U.wants unit.now) U.text) (U.shown unit.now) (now, digits)
-        (T.is_honest (tables_of vault.new)) (Contains T.holds vault.old) (T.leaves (tables_of vault.new)) }
+        (passage T.Tables vault.old vault.new) }
     // it stops by Memory or Store alone
     ensures only { IfErr result (λ e. (e ≡ Stop.Memory) ⊎ (e ≡ Stop.Store)) }
-    // the stop's own one of source, reader, writer and vault has failed; whether the others have stays as it
-    // was
+    // a stop but Memory tells which of source, reader, writer and vault has failed; all else stays as it was
     ensures own_failure { Tells result
         (failures false false false (is_broken vault.old))
         (failures false false false (is_broken vault.new)) }
-    // an honest disk was honest before, and tables that can't fail don't
-    ensures trusted { Trusts T.is_honest T.may_fail vault.old vault.new result }
+    ensures trusted { Trusts T.Tables vault.old vault.new (result ≡ Err Stop.Store) }
 {
     match unit.command(alloc, now, digits) {
         Ok(Ok(command)) => match apply(vault, &command) {
@@ -140,24 +135,22 @@ pub fn ask<U: Unit, W: Write, T: Tables, S: Source>(
     source: &mut S,
 ) -> Result<Reply, Stop>
     // the unit asked for something with the pair that was taken, and its text went out after the write
-    ensures answered { let w : Passage = passing S.given source.old source.new W.contents writer.old
-        writer.new T.is_honest T.holds T.leaves vault.old vault.new in
+    ensures answered { let w : Passage = sending W.contents writer.old writer.new
+        (giving S.given source.old source.new (passage T.Tables vault.old vault.new)) in
         IfOk result (IsAnswered (kind (U.wants unit.now) U.text) w (U.shown unit.now)) }
     // by which cause it stopped, and what went out and is held then
-    ensures stopped { let w : Passage = passing S.given source.old source.new W.contents writer.old writer.new
-        T.is_honest T.holds T.leaves vault.old vault.new in
+    ensures stopped { let w : Passage = sending W.contents writer.old writer.new
+        (giving S.given source.old source.new (passage T.Tables vault.old vault.new)) in
         IfErr result (StopsAt (kind (U.wants unit.now) U.text) w (U.shown unit.now)) }
-    // the stop's own one of source, reader, writer and vault has failed; whether the others have stays as it
-    // was
+    // a stop but Memory tells which of source, reader, writer and vault has failed; all else stays as it was
     ensures own_failure { Tells result
-        (failures (S.has_refused source.old) false (is_stopped writer.old) (is_broken vault.old))
-        (failures (S.has_refused source.new) false (is_stopped writer.new) (is_broken vault.new)) }
+        (failures_unread (S.has_refused source.old) writer.old vault.old)
+        (failures_unread (S.has_refused source.new) writer.new vault.new) }
     // one pair was taken
     ensures counted { OnOk result (S.count_left source.old ≡ S.count_left source.new + 1) }
     // the source is the same, further on
     ensures later { S.precedes source.old source.new }
-    // an honest disk was honest before, and tables that can't fail don't
-    ensures trusted { Trusts T.is_honest T.may_fail vault.old vault.new result }
+    ensures trusted { Trusts T.Tables vault.old vault.new (result ≡ Err Stop.Store) }
 {
     let Ok(pair) = source.next() else {
         return Err(Stop::Source);

@@ -15,7 +15,7 @@ use Rattle.vault_core.specs.Sound.{Sound}
 use Rattle.vault_core.specs.Vault.{Vault, empty_vault}
 use Rattle.vault_file.proofs.Opening.{found_in as held_there, no_verdict, same_fault}
 use Rattle.vault_file.specs.Closed.{ReopensAs}
-use Rattle.vault_file.specs.Found.{IsFoundIn, IsNoVerdict, SparesStopped}
+use Rattle.vault_file.specs.Found.{IsFoundIn, IsNoVerdict}
 use Rattle.vault_file.specs.Moved.{LeavesOld, MovesAs, MovesFrom, StaysOld, TellsOld}
 use Rattle.vault_file.specs.declared.fault.NotOpened.{NotOpened}
 use Rattle.vault_file.specs.declared.fault.NotOpened.TheVariants.{Fault}
@@ -195,15 +195,8 @@ moves_as image conn left it was after = record {
 pub stays_old : {D : Type 0} {g : Ghosts D} (image : Image) (conn : Held (FileStore D g))
     (left : FileStore D g) (why : NotOpened) → LeavesOld image why conn
     → (IsClean (view left) → HasCleanDisk (file_state conn))
-    → (IsClean (view left) → ReopensAs (file_state conn) left)
-    → (HasCleanDisk (file_state conn)
-    → (v : Version) (V : Vault) → Sound V → KeepsIn v image V → IsNoVerdict why)
-    → (HasCleanDisk (file_state conn) → (V : Vault) → Sound V → KeepsSome image V → IsNoVerdict why)
-    → (HasCleanDisk (file_state conn) → SparesStopped image why) → StaysOld image left why
-stays_old image conn left why old was after never never_some spares = record {
+    → (IsClean (view left) → ReopensAs (file_state conn) left) → StaysOld image left why
+stays_old image conn left why old was after = record {
   stays = λ clean other v V keeps. (after clean).same v V (old.stays (was clean) other v V keeps);
   some = λ clean v V keeps. (after clean).some V (old.some (was clean) v V keeps);
-  spared = λ clean. never (was clean);
-  never_some = λ clean. never_some (was clean);
-  spares = λ clean. spares (was clean);
 }

@@ -66,6 +66,12 @@ pub record TellsFound (image : Image) (why : NotOpened) : Type 0 where
       → HoldsSuch image (λ db. IsFull db → IsLeastBroken db rule)
   pub wrong : (n : ℤ) → why ≡ Fault (WrongSchema n) → HoldsSuch image (λ db. IsWrong db n)
 
+-- A refusal is right: it tells what the bytes hold, and whatever a stop leaves of a sound vault isn't refused
+-- for its schema or its rows.
+pub record RefusesRightly (image : Image) (why : NotOpened) : Type 0 where
+  pub tells : TellsFound image why
+  pub spared : SparesStopped image why
+
 -- an open of files with these bytes may find no table
 abbrev pub MayFindNone : Image → Type 0
 MayFindNone image = (found : Trees) × AreBlank found × MayFind image found

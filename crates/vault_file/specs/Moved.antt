@@ -13,7 +13,8 @@ use Rattle.sqlite_store.specs.declared.store.FileStore.{FileStore}
 use Rattle.sqlite_wal.specs.Recovery.{Image}
 use Rattle.vault_core.specs.Sound.{Sound}
 use Rattle.vault_core.specs.Vault.{Vault, empty_vault}
-use Rattle.vault_file.specs.Found.{HoldsSuch, IsNoVerdict, SparesStopped}
+use Rattle.vault_file.specs.Found.{HoldsSuch, IsNoVerdict, LeavesFrom, LeavesWhole, MayFindNone}
+use Rattle.vault_file.specs.Found.{SparesStopped, Stays, StaysWhole}
 use Rattle.vault_file.specs.Reopened.{KeepsIn, KeepsSome, ReopensIn, ReopensSome}
 use Rattle.vault_file.specs.declared.fault.NotOpened.{NotOpened}
 use Rattle.vault_file.specs.declared.fault.NotOpened.TheVariants.{Fault}
@@ -39,6 +40,14 @@ MayFindOlder image = (v : Version) × (found : Trees) × IsOlder v × IsSound (s
 pub record TellsOld (image : Image) (why : NotOpened) : Type 0 where
   pub damaged : (rule : ℕ) → why ≡ Fault (Damaged rule) → HoldsSuch image (λ db. FindsBroken db rule)
   pub wrong : (n : ℤ) → why ≡ Fault (WrongSchema n) → HoldsSuch image (λ db. FindsVersion db n)
+
+-- The same refusal is right: a sound vault isn't refused for its schema or its rows, in whatever version, half
+-- moved, or as a stop may leave it.
+pub record RefusesMove (image : Image) (why : NotOpened) : Type 0 where
+  pub tells : TellsOld image why
+  pub in_version : (v : Version) (V : Vault) → Sound V → KeepsIn v image V → IsNoVerdict why
+  pub in_some : (V : Vault) → Sound V → KeepsSome image V → IsNoVerdict why
+  pub spared : SparesStopped image why
 
 -- A migration is done of such a database alone: where its schema is no version's it has no table; and where
 -- no row lacks its last column it stands for a sound vault in its version, of which this is true.
@@ -75,6 +84,14 @@ module _ {D : Type 0} {g : Ghosts D} where
     pub stays : HasCleanDisk (file_state conn) → refusal ≢ Fault Store
         → (v : Version) (V : Vault) → KeepsIn v image V → LeavesIn v V (file_state conn)
 
+  -- After such a refusal a crash leaves what was kept. Any number but 33 writes nothing; nor does 33 where
+  -- there is a table, and no older version's tables are there.
+  pub record LeavesUnmoved (image : Image) (why : NotOpened) (conn : Held (FileStore D g)) : Type 0 where
+    pub left : LeavesFrom image conn
+    pub old : LeavesOld image why conn
+    pub same : why ≢ Fault Store → LeavesWhole image conn
+    pub same_unmoved : ¬ MayFindNone image → ¬ MayFindOlder image → LeavesWhole image conn
+
   -- The files that are left of a migration that is done. A vault that the bytes keep, in whatever version or
   -- in one on its way, they keep in the newest one; without a table, the empty vault. The bytes hold no other
   -- program's tables, and the vault that they hold the files keep.
@@ -89,13 +106,17 @@ module _ {D : Type 0} {g : Ghosts D} where
     pub stood : IsClean (view left) → HoldsSuch image (λ db. WasVault db (Reopens left))
 
   -- The files that are left of one that is refused. A vault that the bytes keep in some version they keep in
-  -- that one, and after 33 in some version. A sound vault isn't refused for its schema or its rows, in
-  -- whatever version, half moved, or as a stop may leave it.
+  -- that one, and after 33 in some version.
   pub record StaysOld (image : Image) (left : FileStore D g) (why : NotOpened) : Type 0 where
     pub stays : IsClean (view left) → why ≢ Fault Store
         → (v : Version) (V : Vault) → KeepsIn v image V → ReopensIn v left V
     pub some : IsClean (view left) → (v : Version) (V : Vault) → KeepsIn v image V → ReopensSome left V
-    pub spared : IsClean (view left)
-        → (v : Version) (V : Vault) → Sound V → KeepsIn v image V → IsNoVerdict why
-    pub never_some : IsClean (view left) → (V : Vault) → Sound V → KeepsSome image V → IsNoVerdict why
-    pub spares : IsClean (view left) → SparesStopped image why
+
+  -- What they kept they keep. Any number but 33 writes nothing; nor does 33 where there is a table, and no
+  -- older version's tables are there. The refusal is right.
+  pub record StaysUnmoved (image : Image) (left : FileStore D g) (why : NotOpened) : Type 0 where
+    pub refuses : IsClean (view left) → RefusesMove image why
+    pub stays : Stays image left
+    pub old : StaysOld image left why
+    pub same : why ≢ Fault Store → StaysWhole image left
+    pub same_unmoved : ¬ MayFindNone image → ¬ MayFindOlder image → StaysWhole image left

@@ -1,20 +1,19 @@
 //! The whole check of the file at a path.
-ghost use Rattle.std.specs.Prelude.{◌≡◌, ◌⊎◌, ℕ, None, Err, IfOk, IfErr, IfSome};
+ghost use Rattle.std.specs.Prelude.{◌≡◌, ◌⊎◌, None, Err, IfOk, IfErr};
 ghost use Rattle.sqlite.specs.Files.{file_state};
 ghost use Rattle.sqlite.specs.State.{HasCleanDisk};
 ghost use Rattle.sqlite.specs.View.{IsClean};
 ghost use Rattle.sqlite_store.specs.FileStore.{view};
-ghost use Rattle.vault_file.specs.Refused.{GivesBack, IsRefused, TellsWhereRefused, WhereRefused};
 ghost use Rattle.vault_core.specs.Sound.{Sound};
 ghost use Rattle.vault_core.specs.Vault.{Vault as Content, empty_vault};
-ghost use Rattle.vault_file.specs.Found.{ChecksAs, HoldsSuch, IsNoPath, IsVaultOf, LeavesWhole};
-ghost use Rattle.vault_file.specs.Found.{LeavesFrom, SparesStopped, Stays, StaysWhole, TellsFound};
+ghost use Rattle.vault_file.specs.Found.{ChecksAs, HoldsSuch, IsNoPath, IsVaultOf, LeavesFrom, LeavesWhole};
+ghost use Rattle.vault_file.specs.Found.{RefusesRightly, Stays, StaysWhole};
 ghost use Rattle.vault_file.specs.Paths.{Each};
+ghost use Rattle.vault_file.specs.Refused.{GivesBack, IsRefused, TellsWhereRefused, WhereDone, WhereGiven};
+ghost use Rattle.vault_file.specs.Refused.{WhereLeft, WhereShut};
 ghost use Rattle.vault_recover.specs.Crashed.{Keeps};
-ghost use Rattle.vault_verdict.specs.Opened.{IsLeastBroken};
-ghost use Rattle.vault_verdict.specs.Reading.{IsFull};
-ghost use Rattle.vault_verdict.specs.Sizes.{sizes_of};
 ghost use Rattle.vault_schema.specs.Holds.{Holds};
+ghost use Rattle.vault_verdict.specs.Sizes.{sizes_of};
 
 use crate::fault::NotOpened;
 use crate::paths::{Closed, Connected, Paths, is_no_path};
@@ -41,28 +40,15 @@ pub fn check_from<P: Paths>(rt: &HostRuntime, path: &str, paths: P) -> Connected
     ensures kept { IfOk result (λ told. Each (P.holds paths path.now) (λ image.
         HasCleanDisk (file_state told.1)
         → (V : Content) → Sound V → Keeps image V → Holds (file_state told.1) V)) }
-    // with Ok and an honest disk, a crash leaves what was kept: a vault, one of two, or the empty one, made
-    // or not
-    ensures left { IfOk result
-        (λ told. Each (P.holds paths path.now) (λ image. LeavesFrom image told.1)) }
-    // the same after a refusal that gives the connection back
-    ensures left_refused { WhereRefused result (P.holds paths path.now)
-        (λ image _ conn. LeavesFrom image conn) }
-    // 34, and no other refusal, gives nothing back
+    // on an honest disk, a crash leaves what was kept: a vault, one of two, or the empty one, made or not
+    ensures left { WhereGiven result (P.holds paths path.now) LeavesFrom }
     ensures refused { GivesBack result }
     // 34 comes only where an open of the files at the path may fail
     ensures refused_there { IfErr result (λ e. e.0 ≡ NotOpened.Refused → P.refuses paths path.now) }
-    // on an honest disk, 31 says the least rule that full rows break in the bytes, and 30 the version said
-    // there, or 0
-    ensures tells { TellsWhereRefused result (P.holds paths path.now) TellsFound }
-    // on an honest disk, whatever a stop left of sound vaults isn't refused by 30 or 31
-    ensures spared { TellsWhereRefused result (P.holds paths path.now) SparesStopped }
-    // with Ok, on an honest disk, a crash leaves what was found in the bytes, and nothing else
-    ensures same { IfOk result
-        (λ told. Each (P.holds paths path.now) (λ image. LeavesWhole image told.1)) }
-    // the same after a refusal that gives the connection back
-    ensures same_refused { WhereRefused result (P.holds paths path.now)
-        (λ image _ conn. LeavesWhole image conn) }
+    // on an honest disk, the refusal is right
+    ensures rightly { TellsWhereRefused result (P.holds paths path.now) RefusesRightly }
+    // on an honest disk, a crash leaves what was found in the bytes, and nothing else
+    ensures same { WhereGiven result (P.holds paths path.now) LeavesWhole }
 {
     let Some(mut conn) = paths.open(rt, path, Cache::Small) else {
         return Err((NotOpened::Refused, None));
@@ -100,25 +86,15 @@ pub fn check_file<P: Paths>(rt: &HostRuntime, path: &str, paths: P) -> Closed<P,
     ensures refused_there { result.0 ≡ Err NotOpened.Refused → P.refuses paths path.now }
     // with Ok and files, on an honest disk, the sizes are the vault's, if its rows are full, and a sound one
     // stays
-    ensures sound { IfOk result.0 (λ sizes. IfSome result.1
-        (λ left. Each (P.holds paths path.now) (λ image. ChecksAs image left sizes))) }
+    ensures sound { WhereDone result (P.holds paths path.now) ChecksAs }
     // on an honest disk, the files left keep what the bytes kept: a vault, one of two, or the empty one, made
     // or not
-    ensures left { IfSome result.1 (λ left. Each (P.holds paths path.now) (λ image. Stays image left)) }
-    // on an honest disk, 31 says the least rule that the rows in the bytes break, where they are full
-    ensures damaged { IfErr result.0 (λ why. IfSome result.1 (λ left. Each (P.holds paths path.now)
-        (λ image. IsClean (view left) → (rule : ℕ) → why ≡ NotOpened.Fault (OpenFault.Damaged rule)
-        → HoldsSuch image (λ db. IsFull db → IsLeastBroken db rule)))) }
-    // on an honest disk, whatever a stop left of sound vaults isn't refused by 30 or 31
-    ensures spared { IfErr result.0 (λ why. IfSome result.1 (λ left. Each (P.holds paths path.now)
-        (λ image. IsClean (view left) → SparesStopped image why))) }
-    // on an honest disk, 31 says the least rule that full rows break in the bytes, and 30 the version said
-    // there, or 0
-    ensures tells { IfErr result.0 (λ why. IfSome result.1 (λ left. Each (P.holds paths path.now)
-        (λ image. IsClean (view left) → TellsFound image why))) }
+    ensures left { WhereShut result (P.holds paths path.now) Stays }
+    // on an honest disk, the refusal is right
+    ensures rightly { WhereLeft result (P.holds paths path.now)
+        (λ image left why. IsClean (view left) → RefusesRightly image why) }
     // on an honest disk, whoever opens what a crash leaves of the files finds what was in the bytes
-    ensures same { IfSome result.1
-        (λ left. Each (P.holds paths path.now) (λ image. StaysWhole image left)) }
+    ensures same { WhereShut result (P.holds paths path.now) StaysWhole }
 {
     if !is_no_path(path) {
         match paths.is_empty(rt, path) {

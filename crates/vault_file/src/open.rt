@@ -4,7 +4,7 @@ ghost use Rattle.sqlite.specs.View.{IsClean};
 ghost use Rattle.sqlite_store.specs.FileStore.{view};
 ghost use Rattle.vault_file.specs.Refused.{GivesBack, IsRefused, TellsWhereRefused, WhereRefused};
 ghost use Rattle.vault_file.specs.Found.{IsNoPath, LeavesWhole, LeavesFrom, MayFindNone};
-ghost use Rattle.vault_file.specs.Found.{OpensFrom, SparesStopped, Stays, StaysWhole, TellsFound};
+ghost use Rattle.vault_file.specs.Found.{OpensFrom, RefusesRightly, Stays, StaysWhole};
 ghost use Rattle.vault_file.specs.Paths.{Each};
 ghost use Rattle.vault_sql.specs.Held.{AreFresh};
 ghost use Rattle.vault_store.specs.Applied.{is_broken, tables_of};
@@ -45,15 +45,11 @@ pub fn open_from<P: Paths>(
     // with Ok, on an honest disk, a sound vault that the bytes kept is held, or one of two, or the empty one
     ensures found { IfOk result (λ vault. Each (P.holds paths path.now)
         (λ image. OpensFrom image (tables_of vault).conn)) }
-    // 34, and no other refusal, gives nothing back
     ensures refused { GivesBack result }
     // 34 comes only where an open of the files at the path may fail
     ensures refused_there { IfErr result (λ e. e.0 ≡ NotOpened.Refused → P.refuses paths path.now) }
-    // on an honest disk, 31 says the least rule that full rows break in the bytes, and 30 the version said
-    // there, or 0
-    ensures tells { TellsWhereRefused result (P.holds paths path.now) TellsFound }
-    // on an honest disk, whatever a stop left of sound vaults isn't refused by 30 or 31
-    ensures spared { TellsWhereRefused result (P.holds paths path.now) SparesStopped }
+    // on an honest disk, the refusal is right
+    ensures rightly { TellsWhereRefused result (P.holds paths path.now) RefusesRightly }
     // after a refusal on an honest disk, crashes leave what was kept: a vault, one of two, or the empty one,
     // made or not
     ensures left { WhereRefused result (P.holds paths path.now) (λ image _ conn. LeavesFrom image conn) }
@@ -89,17 +85,12 @@ pub fn open_vault<P: Paths>(
     // with Ok, on an honest disk, a sound vault that the bytes kept is held, or one of two, or the empty one
     ensures found { IfOk result (λ vault. Each (P.holds paths path.now)
         (λ image. OpensFrom image (tables_of vault).conn)) }
-    // 34, and no other refusal, gives nothing back
     ensures refused { GivesBack result }
     // 34 comes only where an open of the files at the path may fail
     ensures refused_there { IfErr result (λ e. e.0 ≡ NotOpened.Refused → P.refuses paths path.now) }
-    // on an honest disk, whatever a stop left of sound vaults isn't refused by 30 or 31
-    ensures spared { WhereRefused result (P.holds paths path.now)
-        (λ image why left. IsClean (view left) → SparesStopped image why) }
-    // on an honest disk, 31 says the least rule that full rows break in the bytes, and 30 the version said
-    // there, or 0
-    ensures tells { WhereRefused result (P.holds paths path.now)
-        (λ image why left. IsClean (view left) → TellsFound image why) }
+    // on an honest disk, the refusal is right
+    ensures rightly { WhereRefused result (P.holds paths path.now)
+        (λ image why left. IsClean (view left) → RefusesRightly image why) }
     // on an honest disk, files that are refused keep what was kept: a vault, one of two, or the empty one,
     // made or not
     ensures left { WhereRefused result (P.holds paths path.now) (λ image _ left. Stays image left) }

@@ -86,9 +86,7 @@ pub trait Paths: Drop {
         ensures no_path { IsNoPath path.now → result ≡ None }
         // where none is given, an open of the files at the path may fail
         ensures refused { result ≡ None → refuses self path.now }
-        // the connection is outside a transaction
         ensures idle { IfSome result (λ c. c.in_transaction ≡ false) }
-        // its statements may take any number of steps
         ensures unlimited { IfSome result (λ c. c.step_limit ≡ None) }
         // on an honest disk, the connection was just opened over the bytes at the path, and found what they
         // hold

@@ -1,5 +1,5 @@
 -- Why a service stops.
-pub use Rattle.vault_engine.specs.Stops.{Failures, Tells, failures}
+pub use Rattle.vault_engine.specs.Stops.{Failures, Tells, failures, failures_of, failures_unread}
 use Rattle.vault_engine.specs.declared.stop.Stop.{Stop}
 use Rattle.vault_engine.specs.declared.stop.Stop.TheVariants.{Source, Read, Write, Store, Memory}
 use Rattle.vault_refusal.specs.declared.refusal.Refusal.{Refusal}

@@ -1,13 +1,12 @@
 //! The messages of a connection answered, all that a piece completed before the next piece is read.
-ghost use Rattle.std.specs.Prelude.{◌≡◌, ◌+◌, [], true, false, is_err, IfErr, IfOk, OnOk, MatchResult};
+ghost use Rattle.std.specs.Prelude.{◌≡◌, ◌+◌, [], true, false, is_err, IfOk, OnOk, MatchResult};
 ghost use Rattle.std.specs.Prelude.{length, ◌↔◌, Bool, None};
 ghost use Rattle.std.specs.Io.{ReadsAtMost};
 ghost use Rattle.std.specs.Io.KnownBytes.{ReadConsumes};
-ghost use Rattle.vault_store.specs.Applied.{is_broken, tables_of};
 ghost use Rattle.vault_wire.specs.Watching.{inner_of, is_stopped};
 ghost use Rattle.vault_http.specs.Exchanges.{fault_text, has_close, message_kind, up_to_close};
-ghost use Rattle.vault_http.specs.Faults.{Tells, failures};
-ghost use Rattle.vault_engine.specs.Passing.{Passage, passing};
+ghost use Rattle.vault_http.specs.Faults.{Tells, failures, failures_of, failures_unread};
+ghost use Rattle.vault_engine.specs.Passing.{Passage, giving, passage, sending};
 ghost use Rattle.vault_http.specs.Refusing.{IsRefused};
 ghost use Rattle.vault_http.specs.Served.{Serves};
 ghost use Rattle.vault_engine.specs.Stops.{Trusts};
@@ -44,24 +43,22 @@ fn answer_all<W: Write, T: Tables, S: Source>(
 ) -> Result<bool, ServeFault>
     // on an honest disk, Ok answers all messages up to the first that closes; a stop says what went out and
     // is kept
-    ensures ends { let w : Passage = passing S.given source.old source.new W.contents writer.old writer.new
-        T.is_honest T.holds T.leaves vault.old vault.new in
+    ensures ends { let w : Passage = sending W.contents writer.old writer.new
+        (giving S.given source.old source.new (passage T.Tables vault.old vault.new)) in
         MatchResult result (λ _. AllAnswered message_kind [] w (up_to_close messages.now))
         (StopsWithin message_kind [] w (up_to_close messages.now)) }
     // with Ok, it says whether one of them closes
     ensures closes { IfOk result (λ closed. closed ≡ has_close messages.now) }
-    // the stop's own one of source, reader, writer and vault has failed; whether the others have stays as it
-    // was
+    // a stop but Memory tells which of source, reader, writer and vault has failed; all else stays as it was
     ensures own_failure { Tells result
-        (failures (S.has_refused source.old) false (is_stopped writer.old) (is_broken vault.old))
-        (failures (S.has_refused source.new) false (is_stopped writer.new) (is_broken vault.new)) }
+        (failures_unread (S.has_refused source.old) writer.old vault.old)
+        (failures_unread (S.has_refused source.new) writer.new vault.new) }
     // with Ok, one pair was taken for each message up to the first that closes
     ensures counted { OnOk result (S.count_left source.old
         ≡ S.count_left source.new + length (up_to_close messages.now)) }
     // the source is the same, further on
     ensures later { S.precedes source.old source.new }
-    // an honest disk was honest before, and tables that can't fail don't
-    ensures trusted { Trusts T.is_honest T.may_fail vault.old vault.new result }
+    ensures trusted { Trusts T.Tables vault.old vault.new (result ≡ Err ServeFault.Store) }
 {
     for message in messages {
         let route = routes.find(message.target());
@@ -96,8 +93,7 @@ fn refuse<W: Write>(
     // comes
     ensures ends { IsRefused (W.contents (inner_of writer.old)) (W.contents (inner_of writer.new))
         (fault_text fault) result }
-    // the stop's own one of source, reader, writer and vault has failed; whether the others have stays as it
-    // was
+    // a stop but Memory tells which of source, reader, writer and vault has failed; all else stays as it was
     ensures own_failure { Tells result
         (failures false false (is_stopped writer.old) false)
         (failures false false (is_stopped writer.new) false) }
@@ -160,20 +156,16 @@ pub fn serve_by<R: Read, G: Guide<R>, W: Write, T: Tables, S: Source>(
 ) -> Result<Served, ServeFault>
     // on an honest disk, with Ok all is answered and each number that went out is counted; a stop says what
     // is kept
-    ensures serves { let w : Passage = passing S.given source.old source.new W.contents writer.old writer.new
-        T.is_honest T.holds T.leaves vault.old vault.new in
+    ensures serves { let w : Passage = sending W.contents writer.old writer.new
+        (giving S.given source.old source.new (passage T.Tables vault.old vault.new)) in
         Serves (R.remaining (inner_of reader.old)) (R.remaining (inner_of reader.new)) w result }
-    // the stop's own one of source, reader, writer and vault has failed; whether the others have stays as it
-    // was
+    // a stop but Memory tells which of source, reader, writer and vault has failed; all else stays as it was
     ensures own_failure { Tells result
-        (failures (S.has_refused source.old) (is_stopped reader.old) (is_stopped writer.old)
-        (is_broken vault.old))
-        (failures (S.has_refused source.new) (is_stopped reader.new) (is_stopped writer.new)
-        (is_broken vault.new)) }
+        (failures_of (S.has_refused source.old) reader.old writer.old vault.old)
+        (failures_of (S.has_refused source.new) reader.new writer.new vault.new) }
     // the source is the same, further on
     ensures later { S.precedes source.old source.new }
-    // an honest disk was honest before, and tables that can't fail don't
-    ensures trusted { Trusts T.is_honest T.may_fail vault.old vault.new result }
+    ensures trusted { Trusts T.Tables vault.old vault.new (result ≡ Err ServeFault.Store) }
 {
     let mut intake = Intake::new(alloc);
     let mut piece = [0u8; PIECE];
@@ -229,20 +221,16 @@ pub fn serve<R: Read, W: Write, T: Tables, S: Source>(
 ) -> Result<Served, ServeFault>
     // on an honest disk, with Ok all is answered and each number that went out is counted; a stop says what
     // is kept
-    ensures serves { let w : Passage = passing S.given source.old source.new W.contents writer.old writer.new
-        T.is_honest T.holds T.leaves vault.old vault.new in
+    ensures serves { let w : Passage = sending W.contents writer.old writer.new
+        (giving S.given source.old source.new (passage T.Tables vault.old vault.new)) in
         Serves (R.remaining (inner_of reader.old)) (R.remaining (inner_of reader.new)) w result }
-    // the stop's own one of source, reader, writer and vault has failed; whether the others have stays as it
-    // was
+    // a stop but Memory tells which of source, reader, writer and vault has failed; all else stays as it was
     ensures own_failure { Tells result
-        (failures (S.has_refused source.old) (is_stopped reader.old) (is_stopped writer.old)
-        (is_broken vault.old))
-        (failures (S.has_refused source.new) (is_stopped reader.new) (is_stopped writer.new)
-        (is_broken vault.new)) }
+        (failures_of (S.has_refused source.old) reader.old writer.old vault.old)
+        (failures_of (S.has_refused source.new) reader.new writer.new vault.new) }
     // the source is the same, further on
     ensures later { S.precedes source.old source.new }
-    // an honest disk was honest before, and tables that can't fail don't
-    ensures trusted { Trusts T.is_honest T.may_fail vault.old vault.new result }
+    ensures trusted { Trusts T.Tables vault.old vault.new (result ≡ Err ServeFault.Store) }
 {
     let Ok(routes) = Routes::new(alloc) else {
         return Err(ServeFault::Memory);

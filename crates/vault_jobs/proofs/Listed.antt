@@ -2,17 +2,16 @@
 use Rattle.std.proofs.Common.{◌≡◌, ℕ, List, Bool, true, false, Result, Ok, inr, refl, sym, subst}
 use Rattle.vault_core.specs.Runs.{run}
 use Rattle.vault_core.specs.Vault.{Vault as Content}
-use Rattle.vault_engine.specs.Passing.{Passage}
-use Rattle.vault_listen.specs.Peers.{vault_passing}
+use Rattle.vault_engine.specs.Passing.{Passage, vault_passing}
 use Rattle.vault_live.specs.Turns.{Turn}
 use Rattle.vault_store.specs.Applied.{Contains, tables_of}
 use Rattle.vault_store.specs.declared.vault.Vault.{Vault}
 use Rattle.vault_jobs.proofs.RefinedPassages.{serve_ends}
 use Rattle.vault_jobs.specs.Beginning.{CarriesOut}
-use Rattle.vault_jobs.specs.Doing.{EndsUnfailed, ListedServeEnds, ServeEnds}
+use Rattle.vault_jobs.specs.Doing.{EndsUnfailed, ListedServeEnds, ServeEnds, serving_of}
 use Rattle.vault_jobs.specs.Lists.{asked_of, begin_of, follows}
 use Rattle.vault_jobs.specs.Outside.{Outside}
-use Rattle.vault_jobs.specs.Streams.{Known}
+use Rattle.vault_jobs.specs.Streams.{Known, output_with}
 use Rattle.vault_jobs.specs.declared.lists.Lists.{Lists}
 use Rattle.vault_jobs.specs.declared.stop.Stop.{Stop}
 use Rattle.vault_jobs.specs.declared.task.Outcome.{Outcome}
@@ -29,15 +28,15 @@ module _ {T : Type 0} (honest : T → Type 0) (holds : T → Content → Type 0)
   step = vault_passing honest holds leaves v1 v2
 
   -- what its lists ask for is done, and then it serves
-  pub serves_then : (broken after : Bool)
-      → CarriesOut (begin_of lists) (vault_passing honest holds leaves v0 v1) broken (Ok (Ok tt))
+  pub serves_then : CarriesOut (begin_of lists) (vault_passing honest holds leaves v0 v1) (Ok (Ok tt))
       → (at : Outside) (port n : ℕ) (r : Result Outcome Stop) (unsent : Type 0) (old new : Known)
       (writer : Bool) (ts : List Turn)
-      → ServeEnds at.tells (asked_of at lists) port n step r unsent old new writer ts
+      → ServeEnds (serving_of at.tells (asked_of at lists) port n) step r (output_with unsent old new writer)
+      ts
       → (follows lists ≡ false → EndsUnfailed r writer)
-      → ListedServeEnds at port n lists (vault_passing honest holds leaves v0 v2) after r unsent old new
-      writer ts
-  serves_then broken after carried at port n r unsent old new writer ts h unfailed = inr (
+      → ListedServeEnds (serving_of at.tells (asked_of at lists) port n) lists
+      (vault_passing honest holds leaves v0 v2) r (output_with unsent old new writer) ts
+  serves_then carried at port n r unsent old new writer ts h unfailed = inr (
     λ V b. (carried V (goes b.0, b.1)).0,
     serve_ends (honest (tables_of v2))
         (λ U. (V : Content) × Contains holds v0 V × (U ≡ run (begin_of lists V) V))

@@ -33,13 +33,13 @@ use Rattle.vault_changes.specs.Carried.{Carries}
 use Rattle.vault_changes.proofs.Refining.{carries_all, over}
 use Rattle.vault_changes.specs.Settling.{FailsToRead, IsUntouched}
 use Rattle.vault_jobs.specs.Beginning.{CarriesOut, CarriesTo}
-use Rattle.vault_jobs.specs.Doing.{BeginEnds, ChangeEnds, CommandsEnd}
+use Rattle.vault_jobs.specs.Doing.{BeginEnds, ChangeEnds, CommandsEnd, serving_of}
 use Rattle.vault_jobs.specs.Lists.{begin_of}
 use Rattle.vault_jobs.specs.declared.lists.Lists.{Lists}
 use Rattle.vault_jobs.specs.Doing.{ServeEnds, SetEnds, SettleEnds, ShowEnds}
 use Rattle.vault_jobs.specs.Doing.{SweepEnds, TimedSweepEnds}
 use Rattle.vault_jobs.specs.Piped.{IsPiped, StopsPiping}
-use Rattle.vault_jobs.specs.Streams.{Known}
+use Rattle.vault_jobs.specs.Streams.{Known, output_with}
 use Rattle.vault_jobs.specs.Sweeps.{Sweeps}
 use Rattle.vault_jobs.specs.declared.clock.Giver.{Giver}
 use Rattle.vault_jobs.specs.declared.clock.Giver.TheVariants.{Words, Clock}
@@ -62,32 +62,32 @@ module _ (H : Type 0) (O N : Content → Type 0) (L : Content → Content → Ty
   pub untouched : IsUntouched w → IsUntouched (over H O N L w)
   untouched same V b = kept b.0 V (same V (was V b.0 b.1))
 
-  pub carries : (c : Command) (broken : Bool) (r : Result Verdict Fault) → Carries c w broken r
-      → Carries c (over H O N L w) broken r
-  carries c broken (Ok v) h = λ V b. let it = h V (was V b.0 b.1) in (it.0, kept b.0 _ it.1)
-  carries c broken (Err Memory) h = λ V b. kept b.0 _ (h V (was V b.0 b.1))
-  carries c broken (Err Store) h = (
+  pub carries : (c : Command) (r : Result Verdict Fault) → Carries c w r
+      → Carries c (over H O N L w) r
+  carries c (Ok v) h = λ V b. let it = h V (was V b.0 b.1) in (it.0, kept b.0 _ it.1)
+  carries c (Err Memory) h = λ V b. kept b.0 _ (h V (was V b.0 b.1))
+  carries c (Err Store) h = (
     λ is V b. torn b.0 _ _ (h.0 is V (was V b.0 b.1)),
     λ is V b. let it = h.1 is V (was V b.0 b.1) in (it.0, kept b.0 _ it.1),
   )
-  carries c broken (Err Reopen) h = absurd h
+  carries c (Err Reopen) h = absurd h
 
-  sweeps : (who : Asker) (now : ℕ) (broken : Bool) (r : Result (Result ℕ ℕ) Fault) → Sweeps who now w broken r
-      → Sweeps who now (over H O N L w) broken r
-  sweeps who now broken (Ok (Ok count)) (tokens, h) =
+  sweeps : (who : Asker) (now : ℕ) (r : Result (Result ℕ ℕ) Fault) → Sweeps who now w r
+      → Sweeps who now (over H O N L w) r
+  sweeps who now (Ok (Ok count)) (tokens, h) =
       (tokens, λ V b. let it = h V (was V b.0 b.1) in (it.0, it.1, it.2, kept b.0 _ it.3))
-  sweeps who now broken (Ok (Err n)) (tokens, next, h) =
+  sweeps who now (Ok (Err n)) (tokens, next, h) =
       (tokens, next, λ V b. let it = h V (was V b.0 b.1) in (it.0, it.1, it.2, kept b.0 _ it.3))
-  sweeps who now broken (Err Memory) (tokens, h) =
+  sweeps who now (Err Memory) (tokens, h) =
       (tokens, λ V b. let it = h V (was V b.0 b.1) in (it.0, kept b.0 _ it.1))
-  sweeps who now broken (Err Store) (tokens, next, few, h) = (
+  sweeps who now (Err Store) (tokens, next, few, h) = (
     tokens,
     next,
     few,
     λ V b. let it = h V (was V b.0 b.1) in
         (it.0, it.1, it.2, torn b.0 _ _ it.3),
   )
-  sweeps who now broken (Err Reopen) h = absurd h
+  sweeps who now (Err Reopen) h = absurd h
 
   all_kept : (tells : Turns) (asks : Asking) (ts : List Turn) → AllKept tells asks ts w
       → AllKept tells asks ts (over H O N L w)
@@ -310,8 +310,8 @@ module _ (H : Type 0) (O N : Content → Type 0) (L : Content → Content → Ty
 
   pub serve_ends : (tells : Turns) (asks : Asking) (port n : ℕ) (r : Result Outcome Stop) (unsent : Type 0)
       (old new : Known) (writer : Bool) (ts : List Turn)
-      → ServeEnds tells asks port n w r unsent old new writer ts
-      → ServeEnds tells asks port n (over H O N L w) r unsent old new writer ts
+      → ServeEnds (serving_of tells asks port n) w r (output_with unsent old new writer) ts
+      → ServeEnds (serving_of tells asks port n) (over H O N L w) r (output_with unsent old new writer) ts
   serve_ends tells asks port n (Ok outcome.Done) unsent old new writer ts (told, (all, h)) =
       (told, (all, all_kept tells asks ts h))
   serve_ends tells asks port n (Ok (outcome.Refused k)) unsent old new writer ts a = a
@@ -328,7 +328,8 @@ module _ (H : Type 0) (O N : Content → Type 0) (L : Content → Content → Ty
 
   pub commands_end : (P Q : Result Verdict Fault → Type 0) → ((r : Result Verdict Fault) → P r → Q r)
       → (line : List ℕ) (r : Result Outcome Stop) (unsent : Type 0) (old new : Known) (writer : Bool)
-      → CommandsEnd P line r unsent old new writer → CommandsEnd Q line r unsent old new writer
+      → CommandsEnd P line r (output_with unsent old new writer) → CommandsEnd Q line r
+      (output_with unsent old new writer)
   commands_end P Q step line (Ok outcome.Done) unsent old new writer (calm, wrote, h) =
       (calm, wrote, step _ h)
   commands_end P Q step line (Ok (outcome.Refused n)) unsent old new writer (silent, h) = (silent, step _ h)
@@ -339,112 +340,112 @@ module _ (H : Type 0) (O N : Content → Type 0) (L : Content → Content → Ty
   commands_end P Q step line (Err (Rights f)) unsent old new writer h = h
   commands_end P Q step line (Err (stop.Batch f)) unsent old new writer h = h
 
-  fails_to_read : (broken : Bool) (f : Fault) → FailsToRead w broken f
-      → FailsToRead (over H O N L w) broken f
-  fails_to_read broken Memory same = untouched same
-  fails_to_read broken Store (is, h) = (is, λ V b. torn b.0 V V (h V (was V b.0 b.1)))
-  fails_to_read broken Reopen h = h
+  fails_to_read : (f : Fault) → FailsToRead w f
+      → FailsToRead (over H O N L w) f
+  fails_to_read Memory same = untouched same
+  fails_to_read Store (is, h) = (is, λ V b. torn b.0 V V (h V (was V b.0 b.1)))
+  fails_to_read Reopen h = h
 
-  pub change_ends : (c : Command) (broken : Bool) (r : Result Outcome Stop) (unsent : Type 0)
-      (old new : Known) (writer : Bool) → ChangeEnds c w broken r unsent old new writer
-      → ChangeEnds c (over H O N L w) broken r unsent old new writer
-  change_ends c broken r unsent old new writer (inl h) =
-      inl (commands_end _ _ (carries c broken) _ r unsent old new writer h)
-  change_ends c broken r unsent old new writer (inr (f, is, silent, h, some)) =
-      inr (f, is, silent, fails_to_read broken f h, some)
+  pub change_ends : (c : Command) (r : Result Outcome Stop) (unsent : Type 0)
+      (old new : Known) (writer : Bool) → ChangeEnds c w r (output_with unsent old new writer)
+      → ChangeEnds c (over H O N L w) r (output_with unsent old new writer)
+  change_ends c r unsent old new writer (inl h) =
+      inl (commands_end _ _ (carries c) _ r unsent old new writer h)
+  change_ends c r unsent old new writer (inr (f, is, silent, h, some)) =
+      inr (f, is, silent, fails_to_read f h, some)
 
-  pub settle_ends : (now : ℕ) (rows : List Row) (broken : Bool) (r : Result Outcome Stop) (unsent : Type 0)
-      (old new : Known) (writer : Bool) → SettleEnds now rows w broken r unsent old new writer
-      → SettleEnds now rows (over H O N L w) broken r unsent old new writer
-  settle_ends now rows broken r unsent old new writer (inl (changes, of, h)) = inl (
+  pub settle_ends : (now : ℕ) (rows : List Row) (r : Result Outcome Stop) (unsent : Type 0)
+      (old new : Known) (writer : Bool) → SettleEnds now rows w r (output_with unsent old new writer)
+      → SettleEnds now rows (over H O N L w) r (output_with unsent old new writer)
+  settle_ends now rows r unsent old new writer (inl (changes, of, h)) = inl (
     changes,
     λ V b. of V (was V b.0 b.1),
-    commands_end _ _ (carries_all H O N L w was kept torn changes.commands.items broken) _ r unsent old new
+    commands_end _ _ (carries_all H O N L w was kept torn changes.commands.items) _ r unsent old new
         writer h,
   )
-  settle_ends now rows broken r unsent old new writer (inr (f, is, silent, h)) =
-      inr (f, is, silent, fails_to_read broken f h)
+  settle_ends now rows r unsent old new writer (inr (f, is, silent, h)) =
+      inr (f, is, silent, fails_to_read f h)
 
-  pub set_ends : (now : ℕ) (rows : List Wanted) (broken : Bool) (r : Result Outcome Stop) (unsent : Type 0)
-      (old new : Known) (writer : Bool) → SetEnds now rows w broken r unsent old new writer
-      → SetEnds now rows (over H O N L w) broken r unsent old new writer
-  set_ends now rows broken r unsent old new writer (inl (cs, of, h)) = inl (
+  pub set_ends : (now : ℕ) (rows : List Wanted) (r : Result Outcome Stop) (unsent : Type 0)
+      (old new : Known) (writer : Bool) → SetEnds now rows w r (output_with unsent old new writer)
+      → SetEnds now rows (over H O N L w) r (output_with unsent old new writer)
+  set_ends now rows r unsent old new writer (inl (cs, of, h)) = inl (
     cs,
     λ V b. of V (was V b.0 b.1),
-    commands_end _ _ (carries_all H O N L w was kept torn cs broken) _ r unsent old new writer h,
+    commands_end _ _ (carries_all H O N L w was kept torn cs) _ r unsent old new writer h,
   )
-  set_ends now rows broken r unsent old new writer (inr (f, is, silent, h)) =
-      inr (f, is, silent, fails_to_read broken f h)
+  set_ends now rows r unsent old new writer (inr (f, is, silent, h)) =
+      inr (f, is, silent, fails_to_read f h)
 
-  pub show_ends : (text : Content → List ℕ) (broken : Bool) (r : Result Outcome Stop) (unsent : Type 0)
-      (old new : Known) (writer : Bool) → ShowEnds text w broken r unsent old new writer
-      → ShowEnds text (over H O N L w) broken r unsent old new writer
-  show_ends text broken (Ok outcome.Done) unsent old new writer (calm, same, h) =
+  pub show_ends : (text : Content → List ℕ) (r : Result Outcome Stop) (unsent : Type 0)
+      (old new : Known) (writer : Bool) → ShowEnds text w r (output_with unsent old new writer)
+      → ShowEnds text (over H O N L w) r (output_with unsent old new writer)
+  show_ends text (Ok outcome.Done) unsent old new writer (calm, same, h) =
       (calm, untouched same, λ V b. h V (was V b.0 b.1))
-  show_ends text broken (Ok (outcome.Refused n)) unsent old new writer h = h
-  show_ends text broken (Ok outcome.SomeRefused) unsent old new writer h = h
-  show_ends text broken (Err (Vault f)) unsent old new writer (silent, h) =
-      (silent, fails_to_read broken f h)
-  show_ends text broken (Err (Service f)) unsent old new writer (is, failed, same, h) =
+  show_ends text (Ok (outcome.Refused n)) unsent old new writer h = h
+  show_ends text (Ok outcome.SomeRefused) unsent old new writer h = h
+  show_ends text (Err (Vault f)) unsent old new writer (silent, h) =
+      (silent, fails_to_read f h)
+  show_ends text (Err (Service f)) unsent old new writer (is, failed, same, h) =
       (is, failed, untouched same, λ V b. h V (was V b.0 b.1))
-  show_ends text broken (Err (Listener f)) unsent old new writer h = h
-  show_ends text broken (Err (Rights f)) unsent old new writer h = h
-  show_ends text broken (Err (stop.Batch f)) unsent old new writer h = h
+  show_ends text (Err (Listener f)) unsent old new writer h = h
+  show_ends text (Err (Rights f)) unsent old new writer h = h
+  show_ends text (Err (stop.Batch f)) unsent old new writer h = h
 
-  carries_to : (cs : List Command) (V : Content) (broken : Bool) (r : Result Verdict Fault) → H
-      → CarriesTo cs V w broken r → CarriesTo cs V (over H O N L w) broken r
-  carries_to cs V broken (Ok (Ok done)) honest h = (h.0, kept honest _ h.1)
-  carries_to cs V broken (Ok (Err n)) honest (k, below, replied, it) =
+  carries_to : (cs : List Command) (V : Content) (r : Result Verdict Fault) → H
+      → CarriesTo cs V w r → CarriesTo cs V (over H O N L w) r
+  carries_to cs V (Ok (Ok done)) honest h = (h.0, kept honest _ h.1)
+  carries_to cs V (Ok (Err n)) honest (k, below, replied, it) =
       (k, below, replied, kept honest _ it)
-  carries_to cs V broken (Err Memory) honest (k, few, done, it) = (k, few, done, kept honest _ it)
-  carries_to cs V broken (Err Store) honest (k, few, is, done, inl it) =
+  carries_to cs V (Err Memory) honest (k, few, done, it) = (k, few, done, kept honest _ it)
+  carries_to cs V (Err Store) honest (k, few, is, done, inl it) =
       (k, few, is, done, inl (torn honest _ _ it))
-  carries_to cs V broken (Err Store) honest (k, few, is, done, inr (below, it)) =
+  carries_to cs V (Err Store) honest (k, few, is, done, inr (below, it)) =
       (k, few, is, done, inr (below, torn honest _ _ it))
-  carries_to cs V broken (Err Reopen) honest h = h
+  carries_to cs V (Err Reopen) honest h = h
 
-  pub carries_out : (wants : Content → List Command) (broken : Bool) (r : Result Verdict Fault)
-      → CarriesOut wants w broken r → CarriesOut wants (over H O N L w) broken r
-  carries_out wants broken r h = λ V b. carries_to (wants V) V broken r b.0 (h V (was V b.0 b.1))
+  pub carries_out : (wants : Content → List Command) (r : Result Verdict Fault)
+      → CarriesOut wants w r → CarriesOut wants (over H O N L w) r
+  carries_out wants r h = λ V b. carries_to (wants V) V r b.0 (h V (was V b.0 b.1))
 
-  pub begin_ends : (lists : Lists) (broken : Bool) (r : Result Outcome Stop) (unsent : Type 0)
-      → BeginEnds lists w broken r unsent → BeginEnds lists (over H O N L w) broken r unsent
-  begin_ends lists broken (Ok outcome.Done) unsent h = h
-  begin_ends lists broken (Ok (outcome.Refused n)) unsent (silent, h) =
-      (silent, carries_out (begin_of lists) broken (Ok (Err n)) h)
-  begin_ends lists broken (Ok outcome.SomeRefused) unsent h = h
-  begin_ends lists broken (Err (Vault f)) unsent (silent, h) =
-      (silent, carries_out (begin_of lists) broken (Err f) h)
-  begin_ends lists broken (Err (Service f)) unsent h = h
-  begin_ends lists broken (Err (Listener f)) unsent h = h
-  begin_ends lists broken (Err (Rights f)) unsent h = h
-  begin_ends lists broken (Err (stop.Batch f)) unsent h = h
+  pub begin_ends : (lists : Lists) (r : Result Outcome Stop) (unsent : Type 0)
+      → BeginEnds lists w r unsent → BeginEnds lists (over H O N L w) r unsent
+  begin_ends lists (Ok outcome.Done) unsent h = h
+  begin_ends lists (Ok (outcome.Refused n)) unsent (silent, h) =
+      (silent, carries_out (begin_of lists) (Ok (Err n)) h)
+  begin_ends lists (Ok outcome.SomeRefused) unsent h = h
+  begin_ends lists (Err (Vault f)) unsent (silent, h) =
+      (silent, carries_out (begin_of lists) (Err f) h)
+  begin_ends lists (Err (Service f)) unsent h = h
+  begin_ends lists (Err (Listener f)) unsent h = h
+  begin_ends lists (Err (Rights f)) unsent h = h
+  begin_ends lists (Err (stop.Batch f)) unsent h = h
 
-  pub sweep_ends : (who : Asker) (now : ℕ) (broken : Bool) (r : Result Outcome Stop) (unsent : Type 0)
-      (old new : Known) (writer : Bool) → SweepEnds who now w broken r unsent old new writer
-      → SweepEnds who now (over H O N L w) broken r unsent old new writer
-  sweep_ends who now broken (Ok outcome.Done) unsent old new writer (calm, (count, h, wrote)) =
-      (calm, (count, sweeps who now broken (Ok (Ok count)) h, wrote))
-  sweep_ends who now broken (Ok (outcome.Refused n)) unsent old new writer (silent, h) =
-      (silent, sweeps who now broken (Ok (Err n)) h)
-  sweep_ends who now broken (Ok outcome.SomeRefused) unsent old new writer h = h
-  sweep_ends who now broken (Err (Vault f)) unsent old new writer (silent, h) =
-      (silent, sweeps who now broken (Err f) h)
-  sweep_ends who now broken (Err (Service f)) unsent old new writer (is, failed, (count, h)) =
-      (is, failed, (count, sweeps who now broken (Ok (Ok count)) h))
-  sweep_ends who now broken (Err (Listener f)) unsent old new writer h = h
-  sweep_ends who now broken (Err (Rights f)) unsent old new writer h = h
-  sweep_ends who now broken (Err (stop.Batch f)) unsent old new writer h = h
+  pub sweep_ends : (who : Asker) (now : ℕ) (r : Result Outcome Stop) (unsent : Type 0)
+      (old new : Known) (writer : Bool) → SweepEnds who now w r (output_with unsent old new writer)
+      → SweepEnds who now (over H O N L w) r (output_with unsent old new writer)
+  sweep_ends who now (Ok outcome.Done) unsent old new writer (calm, (count, h, wrote)) =
+      (calm, (count, sweeps who now (Ok (Ok count)) h, wrote))
+  sweep_ends who now (Ok (outcome.Refused n)) unsent old new writer (silent, h) =
+      (silent, sweeps who now (Ok (Err n)) h)
+  sweep_ends who now (Ok outcome.SomeRefused) unsent old new writer h = h
+  sweep_ends who now (Err (Vault f)) unsent old new writer (silent, h) =
+      (silent, sweeps who now (Err f) h)
+  sweep_ends who now (Err (Service f)) unsent old new writer (is, failed, (count, h)) =
+      (is, failed, (count, sweeps who now (Ok (Ok count)) h))
+  sweep_ends who now (Err (Listener f)) unsent old new writer h = h
+  sweep_ends who now (Err (Rights f)) unsent old new writer h = h
+  sweep_ends who now (Err (stop.Batch f)) unsent old new writer h = h
 
-  pub timed_sweep_ends : (giver : Giver) (who : Asker) (now : ℕ) (broken : Bool) (r : Result Outcome Stop)
+  pub timed_sweep_ends : (giver : Giver) (who : Asker) (now : ℕ) (r : Result Outcome Stop)
       (unsent : Type 0) (old new : Known) (writer : Bool)
-      → TimedSweepEnds giver who now w broken r unsent old new writer
-      → TimedSweepEnds giver who now (over H O N L w) broken r unsent old new writer
-  timed_sweep_ends Words who now broken r unsent old new writer h =
-      sweep_ends who now broken r unsent old new writer h
-  timed_sweep_ends Clock who now broken r unsent old new writer (inl (near, h)) =
-      inl (λ V b. near V (was V b.0 b.1), sweep_ends who now broken r unsent old new writer h)
-  timed_sweep_ends Clock who now broken r unsent old new writer (inr (inl (is, silent, same, far))) =
+      → TimedSweepEnds giver who now w r (output_with unsent old new writer)
+      → TimedSweepEnds giver who now (over H O N L w) r (output_with unsent old new writer)
+  timed_sweep_ends Words who now r unsent old new writer h =
+      sweep_ends who now r unsent old new writer h
+  timed_sweep_ends Clock who now r unsent old new writer (inl (near, h)) =
+      inl (λ V b. near V (was V b.0 b.1), sweep_ends who now r unsent old new writer h)
+  timed_sweep_ends Clock who now r unsent old new writer (inr (inl (is, silent, same, far))) =
       inr (inl (is, silent, untouched same, λ V b. far V (was V b.0 b.1)))
-  timed_sweep_ends Clock who now broken r unsent old new writer (inr (inr (f, is, silent, h))) =
-      inr (inr (f, is, silent, fails_to_read broken f h))
+  timed_sweep_ends Clock who now r unsent old new writer (inr (inr (f, is, silent, h))) =
+      inr (inr (f, is, silent, fails_to_read f h))

@@ -131,7 +131,7 @@ module _ (tells : Turns) (w : Passage) (V : Content) (now : Option ℕ) (digits 
 
   -- a service to its end is a trial
   pub trial_of : (old new : Known) (served : Served) → IsServed old new w served
-      → IsTrial tells old new w.sent_old w.sent_new V now digits
+      → IsTrial (AreGiven tells now digits) V old new w.sent_old w.sent_new
   trial_of old new served s =
       let P : Option WireFault → Type 0 = λ e. Sends w (texts answer_for V s.exchanges ++ last_text e) in
       record {
@@ -151,7 +151,7 @@ module _ (tells : Turns) (w : Passage) (V : Content) (now : Option ℕ) (digits 
   cut_among : (old new : Known) (bytes : List ℕ) (ms : List Request) → Consumes old new bytes
       → Begins bytes ms
       → Begun tells w (up_to_close (shown ms)) V now digits
-      → IsCut tells old new w.sent_old w.sent_new V now digits
+      → IsCut (AreGiven tells now digits) V old new w.sent_old w.sent_new
   cut_among old new bytes ms read begins b = record {
     bytes = bytes;
     messages = ms;
@@ -169,7 +169,7 @@ module _ (tells : Turns) (w : Passage) (V : Content) (now : Option ℕ) (digits 
   }
 
   cut_at_fault : (old new : Known) → StopsAtFault old new w
-      → IsCut tells old new w.sent_old w.sent_new V now digits
+      → IsCut (AreGiven tells now digits) V old new w.sent_old w.sent_new
   cut_at_fault old new s = record {
     bytes = s.bytes;
     messages = s.messages;
@@ -190,7 +190,7 @@ module _ (tells : Turns) (w : Passage) (V : Content) (now : Option ℕ) (digits 
 
   -- a service that stopped went through a beginning of a trial
   pub cut_of : (e : ServeFault) (old new : Known) → IsStopped old new w e
-      → IsCut tells old new w.sent_old w.sent_new V now digits
+      → IsCut (AreGiven tells now digits) V old new w.sent_old w.sent_new
   cut_of fault.Source old new (f, s) =
       cut_among old new s.bytes s.messages s.read (begins_of s.bytes s.messages f s.reads)
       (begun fault.Source (up_to_close (shown s.messages)) s.stops)
@@ -210,7 +210,7 @@ module _ (tells : Turns) (w : Passage) (V : Content) (now : Option ℕ) (digits 
 -- nothing was read and nothing went out
 pub nothing_cut : (tells : Turns) (left sent : Known) (V : Content) (now : Option ℕ)
     (digits : Option (List ℕ))
-    → IsCut tells left left sent sent V now digits
+    → IsCut (AreGiven tells now digits) V left left sent sent
 nothing_cut tells left sent V now digits = record {
   bytes = [];
   messages = [];
@@ -242,7 +242,8 @@ ends_at bytes ms xs (Some e) false h reads whole = (reads, h, whole ∙ up_to_cl
 -- a trial is a beginning of itself
 pub cut_whole : (tells : Turns) (old new out gone : Known) (V : Content) (now : Option ℕ)
     (digits : Option (List ℕ))
-    → IsTrial tells old new out gone V now digits → IsCut tells old new out gone V now digits
+    → IsTrial (AreGiven tells now digits) V old new out gone → IsCut (AreGiven tells now digits) V old new out
+    gone
 cut_whole tells old new out gone V now digits t =
     let last : Option WireFault = answered_fault t.messages t.fault in
     let all : List ℕ = texts answer_for V t.exchanges ++ last_text last in
@@ -288,7 +289,7 @@ few_pairs tells told old new most none left goes =
 pub cut_piping : (tells : Turns) (w : Passage) (V : Content) (now : Option ℕ) (digits : Option (List ℕ))
     → IsBefore w V
     → w.given_old ≡ [] → AreGiven tells now digits w.given_new → (old new : Known) (e : ServeFault)
-    → StopsPiping old new w e → IsCut tells old new w.sent_old w.sent_new V now digits
+    → StopsPiping old new w e → IsCut (AreGiven tells now digits) V old new w.sent_old w.sent_new
 cut_piping tells w V now digits before fresh fits old new e (inl s) =
     cut_of tells w V now digits before fresh fits e old new s
 cut_piping tells w V now digits before fresh fits old new e (inr (is, (served, s))) =

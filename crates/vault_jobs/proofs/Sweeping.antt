@@ -1,6 +1,6 @@
 -- The numbers of dead tokens are purged, one after the other.
 use Rattle.std.proofs.Common.{◌≡◌, ℕ, ◌+◌, ◌<◌, ◌≤◌, List, [], ◌∷◌, ◌++◌, length, map, take, drop, get_or}
-use Rattle.std.proofs.Common.{Bool, true, false, Ok, Err, sym, ◌∙◌, ap, subst, arith, refl, replicate}
+use Rattle.std.proofs.Common.{true, false, Ok, Err, sym, ◌∙◌, ap, subst, arith, refl, replicate}
 use Rattle.std.proofs.Common.{append-nil, not}
 use Rattle.std.specs.FinMap as finmap
 use Rattle.std.specs.List.{filter}
@@ -20,8 +20,7 @@ use Rattle.vault_core.specs.declared.limit.TheConstants.{MOST_TOKENS}
 use Rattle.vault_core.specs.declared.row.Entry.{Entry}
 use Rattle.vault_core.specs.declared.reply.Reply.TheVariants as answer
 use Rattle.vault_batch.specs.declared.asker.Asker.{Asker}
-use Rattle.vault_engine.specs.Passing.{IsBefore, Passage}
-use Rattle.vault_listen.specs.Peers.{vault_passing}
+use Rattle.vault_engine.specs.Passing.{IsBefore, Passage, vault_passing}
 use Rattle.vault_store.specs.declared.vault.Vault.{Vault}
 use Rattle.vault_store.specs.Applied.{Contains, breaks, is_broken, tables_of}
 use Rattle.vault_store.specs.Left.{LeavesBy}
@@ -177,12 +176,12 @@ module _ {T : Type 0} (honest : T → Type 0) (holds : T → Content → Type 0)
   before V b = sweeping.1 V (goes b.0, b.1)
 
   -- no token is left
-  pub all_swept : (broken : Bool) (page : List Bytes) (n : ℕ) → 1 ≤ n → length page ≡ 0
+  pub all_swept : (page : List Bytes) (n : ℕ) → 1 ≤ n → length page ≡ 0
       → (honest (tables_of v2) → (W : Content) → Contains holds v1 W
       → (page ≡ take n (dead_tokens W who.merchant now)) × Contains holds v2 W)
       → (honest (tables_of v2) → (W : Content) → Contains holds v1 W → leaves (tables_of v2) W W)
-      → Sweeps who now whole broken (Ok (Ok count))
-  all_swept broken page n some none told crash = (
+      → Sweeps who now whole (Ok (Ok count))
+  all_swept page n some none told crash = (
     tokens,
     λ V b.
         let so_far = before V b in
@@ -201,7 +200,7 @@ module _ {T : Type 0} (honest : T → Type 0) (holds : T → Content → Type 0)
       → (e ≡ Memory → (W : Content) → Contains holds v1 W → Contains holds v2 W)
       → (honest (tables_of v2) → (W : Content) → Contains holds v1 W
       → LeavesBy {X = Unit {0}} (Err e) (leaves (tables_of v2)) W W)
-      → Sweeps who now whole (is_broken v2) (Err e)
+      → Sweeps who now whole (Err e)
   unread Memory sound broken reopen memory crash = (
     tokens,
     λ V b.
@@ -233,10 +232,10 @@ none_yet who now honest holds leaves v0 = ([], λ V b. (refl, omega arith, none_
 
 -- it never comes to as many rounds
 pub never_ends : (who : Asker) (now : ℕ) {T : Type 0} (honest : T → Type 0) (holds : T → Content → Type 0)
-    (leaves : T → Content → Content → Type 0) (v0 v1 : Vault T) (rounds count : ℕ) (broken : Bool)
+    (leaves : T → Content → Content → Type 0) (v0 v1 : Vault T) (rounds count : ℕ)
     → MOST_TOKENS < rounds → IsSweeping who now (vault_passing honest holds leaves v0 v1) rounds count
-    → Sweeps who now (vault_passing honest holds leaves v0 v1) broken (Err Store)
-never_ends who now honest holds leaves v0 v1 rounds count broken many sweeping = (
+    → Sweeps who now (vault_passing honest holds leaves v0 v1) (Err Store)
+never_ends who now honest holds leaves v0 v1 rounds count many sweeping = (
   [],
   [],
   omega arith,
@@ -249,7 +248,7 @@ never_ends who now honest holds leaves v0 v1 rounds count broken many sweeping =
 
 module _ {T : Type 0} (honest : T → Type 0) (holds : T → Content → Type 0)
     (leaves : T → Content → Content → Type 0) (who : Asker) (now : ℕ)
-    (v0 v1 v2 v3 : Vault T) (rounds count : ℕ) (page : List Bytes) (most : ℕ) (broken : Bool)
+    (v0 v1 v2 v3 : Vault T) (rounds count : ℕ) (page : List Bytes) (most : ℕ)
     (sweeping : IsSweeping who now (vault_passing honest holds leaves v0 v1) rounds count)
     (goes : honest (tables_of v2) → honest (tables_of v1))
     (goes_on : honest (tables_of v3) → honest (tables_of v2))
@@ -287,7 +286,7 @@ module _ {T : Type 0} (honest : T → Type 0) (holds : T → Content → Type 0)
 
   -- all of a page are purged
   pub page_swept : (count' : ℕ) → (count + length page ≤ MOST_TOKENS → count' ≡ count + length page)
-      → 1 ≤ length page → CarriesAll (purges_at who now page) step broken (Ok (Ok tt))
+      → 1 ≤ length page → CarriesAll (purges_at who now page) step (Ok (Ok tt))
       → IsSweeping who now all (rounds + 1) count'
   page_swept count' adds some carried = (
     sweeping.0 ++ page,
@@ -354,8 +353,8 @@ module _ {T : Type 0} (honest : T → Type 0) (holds : T → Content → Type 0)
   inside k below = subst (λ n. k < n) (length-map page (λ (t : Bytes). purge_at who now t)) below
 
   -- one of a page is refused
-  pub page_refused : (n : ℕ) → CarriesAll (purges_at who now page) step broken (Ok (Err n))
-      → Sweeps who now all broken (Ok (Err n))
+  pub page_refused : (n : ℕ) → CarriesAll (purges_at who now page) step (Ok (Err n))
+      → Sweeps who now all (Ok (Err n))
   page_refused n (k, below, carried) = (
     sweeping.0 ++ take k page,
     get_or page k [],
@@ -382,8 +381,8 @@ module _ {T : Type 0} (honest : T → Type 0) (holds : T → Content → Type 0)
   )
 
   -- a purge of a page was stopped
-  pub page_stopped : (e : Fault) → CarriesAll (purges_at who now page) step broken (Err e)
-      → Sweeps who now all broken (Err e)
+  pub page_stopped : (e : Fault) → CarriesAll (purges_at who now page) step (Err e)
+      → Sweeps who now all (Err e)
   page_stopped Memory (k, below, carried) = (
     sweeping.0 ++ take k page,
     λ V b.

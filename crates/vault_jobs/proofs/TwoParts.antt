@@ -1,7 +1,7 @@
 -- Commands with which a service begins, in two parts.
 use Rattle.std.proofs.Common.{◌≡◌, ◌∙◌, ℕ, zero, suc, ◌+◌, ◌≤◌, List, [], ◌∷◌, ◌++◌, length, take}
 use Rattle.std.proofs.Common.{replicate, arith}
-use Rattle.std.proofs.Common.{◌⊎◌, Bool, Result, Ok, Err, inl, inr, refl, sym, ap, subst, append_assoc}
+use Rattle.std.proofs.Common.{◌⊎◌, Result, Ok, Err, inl, inr, refl, sym, ap, subst, append_assoc}
 use Rattle.std.proofs.Math.Seq.{take-length}
 use Rattle.std.proofs.lemmas.List.{replicate-append-replicate}
 use Rattle.vault_core.specs.Runs.{replies, run}
@@ -63,12 +63,12 @@ run_past : (a b : List Command) (V : Content) (k : ℕ)
 run_past a b V k = ap (λ cs. run cs V) (take_past a b k) ∙ run_both a (take k b) V
 
 -- commands that all vaults that were held ask for
-pub carried_to : (all cs : List Command) (V : Content) (w : Passage) (broken : Bool)
-    (r : Result Verdict Fault) → IsBefore w V → cs ≡ all → CarriesAll cs w broken r
-    → CarriesTo all V w broken r
-carried_to all cs V w broken r b is h = subst (λ ds. CarriesTo ds V w broken r) is (by_end r h)
+pub carried_to : (all cs : List Command) (V : Content) (w : Passage)
+    (r : Result Verdict Fault) → IsBefore w V → cs ≡ all → CarriesAll cs w r
+    → CarriesTo all V w r
+carried_to all cs V w r b is h = subst (λ ds. CarriesTo ds V w r) is (by_end r h)
   where
-    by_end : (r : Result Verdict Fault) → CarriesAll cs w broken r → CarriesTo cs V w broken r
+    by_end : (r : Result Verdict Fault) → CarriesAll cs w r → CarriesTo cs V w r
     by_end (Ok (Ok done)) h = h V b
     by_end (Ok (Err n)) (k, below, h) = let it = h V b in (k, below, it.0, it.1)
     by_end (Err Memory) (k, below, h) = let it = h V b in (k, omega (arith, below), it.0, it.1)
@@ -77,30 +77,30 @@ carried_to all cs V w broken r b is h = subst (λ ds. CarriesTo ds V w broken r)
     by_end (Err Reopen) h = absurd h
 
 -- none of them is carried out, since what is held wasn't read
-pub unread_to : (all : List Command) (V : Content) (w : Passage) (broken : Bool) (f : Fault)
-    → IsBefore w V → FailsToRead w broken f → CarriesTo all V w broken (Err f)
-unread_to all V w broken Memory b h = (0, omega arith, refl, h V b)
-unread_to all V w broken Store b (is, h) = (0, omega arith, is, refl, inl (h V b))
-unread_to all V w broken Reopen b h = absurd h
+pub unread_to : (all : List Command) (V : Content) (w : Passage) (f : Fault)
+    → IsBefore w V → FailsToRead w f → CarriesTo all V w (Err f)
+unread_to all V w Memory b h = (0, omega arith, refl, h V b)
+unread_to all V w Store b (is, h) = (0, omega arith, is, refl, inl (h V b))
+unread_to all V w Reopen b h = absurd h
 
 -- some of them are carried out, or none is, since what is held wasn't read
-pub failed_to : (wants : Content → List Command) (V : Content) (w : Passage) (broken : Bool) (f : Fault)
+pub failed_to : (wants : Content → List Command) (V : Content) (w : Passage) (f : Fault)
     → IsBefore w V
-    → ((cs : List Command) × ((U : Content) → IsBefore w U → cs ≡ wants U) × CarriesAll cs w broken (Err f))
-    ⊎ FailsToRead w broken f → CarriesTo (wants V) V w broken (Err f)
-failed_to wants V w broken f b (inl (cs, of, h)) = carried_to (wants V) cs V w broken (Err f) b (of V b) h
-failed_to wants V w broken f b (inr h) = unread_to (wants V) V w broken f b h
+    → ((cs : List Command) × ((U : Content) → IsBefore w U → cs ≡ wants U) × CarriesAll cs w (Err f))
+    ⊎ FailsToRead w f → CarriesTo (wants V) V w (Err f)
+failed_to wants V w f b (inl (cs, of, h)) = carried_to (wants V) cs V w (Err f) b (of V b) h
+failed_to wants V w f b (inr h) = unread_to (wants V) V w f b h
 
 -- it ended in the first of two lists
-pub ended_first : (a b : List Command) (V : Content) (w : Passage) (broken : Bool) (r : Result Verdict Fault)
-    → ¬ (r ≡ Ok (Ok tt)) → CarriesTo a V w broken r → CarriesTo (a ++ b) V w broken r
-ended_first a b V w broken r not_done h = by_end r not_done h
+pub ended_first : (a b : List Command) (V : Content) (w : Passage) (r : Result Verdict Fault)
+    → ¬ (r ≡ Ok (Ok tt)) → CarriesTo a V w r → CarriesTo (a ++ b) V w r
+ended_first a b V w r not_done h = by_end r not_done h
   where
     more : (k : ℕ) → k ≤ length a → k ≤ length (a ++ b)
     more k few = let e = length_both a b in omega (arith, few, e)
 
-    by_end : (r : Result Verdict Fault) → ¬ (r ≡ Ok (Ok tt)) → CarriesTo a V w broken r
-        → CarriesTo (a ++ b) V w broken r
+    by_end : (r : Result Verdict Fault) → ¬ (r ≡ Ok (Ok tt)) → CarriesTo a V w r
+        → CarriesTo (a ++ b) V w r
     by_end (Ok (Ok tt)) never h = absurd (never refl)
     by_end (Ok (Err n)) never (k, below, replied, kept) =
         let same = take_within a b (k + 1) (omega (arith, below)) in
@@ -142,14 +142,14 @@ ended_first a b V w broken r not_done h = by_end r not_done h
     by_end (Err Reopen) never h = absurd h
 
 -- it ended in the second one, before which the first one was done
-pub ended_second : (a b : List Command) (V : Content) (w : Passage) (broken : Bool) (r : Result Verdict Fault)
-    → AreDone (length a) a V → CarriesTo b (run a V) w broken r → CarriesTo (a ++ b) V w broken r
-ended_second a b V w broken r first h = by_end r h
+pub ended_second : (a b : List Command) (V : Content) (w : Passage) (r : Result Verdict Fault)
+    → AreDone (length a) a V → CarriesTo b (run a V) w r → CarriesTo (a ++ b) V w r
+ended_second a b V w r first h = by_end r h
   where
     fits : (k : ℕ) → k ≤ length b → length a + k ≤ length (a ++ b)
     fits k few = let e = length_both a b in omega (arith, few, e)
 
-    by_end : (r : Result Verdict Fault) → CarriesTo b (run a V) w broken r → CarriesTo (a ++ b) V w broken r
+    by_end : (r : Result Verdict Fault) → CarriesTo b (run a V) w r → CarriesTo (a ++ b) V w r
     by_end (Ok (Ok tt)) (done, kept) = (
       subst (λ n. AreDone n (a ++ b) V) (sym (length_both a b)) (done_past a b V (length b) first done),
       subst (λ X. Keeps w X) (sym (run_both a b V)) kept,

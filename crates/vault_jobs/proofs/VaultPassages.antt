@@ -2,7 +2,7 @@
 use Rattle.std.proofs.Common.{◌≡◌, ℕ, List, [], Option, subst}
 use Rattle.vault_engine.specs.Asking.{Pair}
 use Rattle.vault_engine.specs.Passing.{Passage}
-use Rattle.vault_listen.specs.Live.{Begins, Continues, Turns, pairs_of}
+use Rattle.vault_listen.specs.Live.{AreGiven, Begins, Continues, Turns, pairs_of}
 use Rattle.vault_listen.specs.declared.live.LiveSource.{LiveSource}
 use Rattle.vault_listen.proofs.Turns.{given_since}
 use Rattle.vault_jobs.specs.Doing.{Along}
@@ -20,7 +20,7 @@ pub along_live : {Q G : Type 0} (tells : Q → Turns) (told : Q → ℕ) (turns 
       given_new = pairs_of new;
       sent_old = s.sent_old;
       sent_new = s.sent_new;
-    }) → Along turns most now digits w s P
+    }) → Along (AreGiven turns now digits) most w s P
 along_live tells told turns old new most now digits w s P fresh left begins goes h = (
   pairs_of new,
   few_pairs tells told old new most fresh left goes,

@@ -33,7 +33,7 @@ use Rattle.vault_jobs.specs.Notes.{IsNoted, withdrawn_by}
 use Rattle.vault_jobs.specs.Outcomes.{ComesTo, no_outcome}
 use Rattle.vault_jobs.specs.Outside.{Outside}
 use Rattle.vault_jobs.specs.Piped.{IsPiped, StopsPiping}
-use Rattle.vault_jobs.specs.Streams.{Known, Streams}
+use Rattle.vault_jobs.specs.Streams.{Known, Output, Seen, Streams, output_in}
 use Rattle.vault_jobs.specs.Sweeps.{Sweeps}
 use Rattle.vault_jobs.specs.Tasks.{BreaksBy, HasNoTurns, IsTaskBegun, granted_line}
 use Rattle.vault_jobs.specs.Tasks.{listening_line, merchants_line, purged_line}
@@ -52,6 +52,7 @@ use Rattle.vault_jobs.specs.declared.lists.Lists.{Lists}
 use Rattle.vault_changes.specs.declared.changes.Changes.{Changes}
 use Rattle.vault_changes.specs.Changes.{AreChangesOf, settled_line}
 use Rattle.vault_jobs.specs.Listing.{shown_text}
+use Rattle.vault_listen.specs.declared.fault.ListenFault.{ListenFault}
 
 -- the same passage of a vault, in which a writer took bytes too and a source gave these pairs
 abbrev pub along : Passage → Streams → List Pair → Passage
@@ -62,79 +63,74 @@ along w s pairs = record w {
   sent_new = s.sent_new;
 }
 
--- in a passage along so many pairs at most, which have this moment and these digits, where they are fixed,
--- and else a moment that was told for each
-abbrev pub Along : Turns → ℕ → Option ℕ → Option (List ℕ) → Passage → Streams → (Passage → Type 0) → Type 0
-Along tells most now digits w s P = (pairs : List Pair) × (length pairs ≤ most)
-    × AreGiven tells now digits pairs × P (along w s pairs)
+-- in a passage along so many pairs at most, each of its own
+abbrev pub Along : (List Pair → Type 0) → ℕ → Passage → Streams → (Passage → Type 0) → Type 0
+Along Own most w s P = (pairs : List Pair) × (length pairs ≤ most) × Own pairs × P (along w s pairs)
 
 -- How commands end that come to a verdict. Done: they came to done, and the line went out. Refused: they came
 -- to this refusal, and nothing went out. Stopped: by the vault, and nothing went out; or by the writer, and
 -- they came to done.
-abbrev pub CommandsEnd : (Result Verdict Fault → Type 0) → List ℕ → Result Outcome Stop → Type 0
-    → Known → Known → Bool → Type 0
-CommandsEnd Carried line result unsent old new writer = ComesTo (record no_outcome {
-  done = (writer ≡ false) × Appends old new line × Carried (Ok (Ok tt));
-  refused = λ n. unsent × Carried (Ok (Err n));
-  vault = λ f. unsent × Carried (Err f);
-  service = λ f. (f ≡ service.Write) × (writer ≡ true) × Carried (Ok (Ok tt));
+abbrev pub CommandsEnd : (Result Verdict Fault → Type 0) → List ℕ → Result Outcome Stop → Output → Type 0
+CommandsEnd Carried line result out = ComesTo (record no_outcome {
+  done = (out.writer ≡ false) × Appends out.sent_old out.sent_new line × Carried (Ok (Ok tt));
+  refused = λ n. out.unsent × Carried (Ok (Err n));
+  vault = λ f. out.unsent × Carried (Err f);
+  service = λ f. (f ≡ service.Write) × (out.writer ≡ true) × Carried (Ok (Ok tt));
 }) result
 
 -- How one command ends: as commands do that come to a verdict. Or it takes a right away, and before that the
 -- rights weren't read, which tell whether it is there.
-abbrev pub ChangeEnds : Command → Passage → Bool → Result Outcome Stop → Type 0 → Known → Known → Bool
-    → Type 0
-ChangeEnds c w broken result unsent old new writer =
-    CommandsEnd (Carries c w broken) (codes "done\n") result unsent old new writer
-    ⊎ ((f : Fault) × (result ≡ Err (Vault f)) × unsent × FailsToRead w broken f × IsSome (withdrawn_by c))
+abbrev pub ChangeEnds : Command → Passage → Result Outcome Stop → Output → Type 0
+ChangeEnds c w result out = CommandsEnd (Carries c w) (codes "done\n") result out
+    ⊎ ((f : Fault) × (result ≡ Err (Vault f)) × out.unsent × FailsToRead w f × IsSome (withdrawn_by c))
 
 -- how a sweep ends: with Done its line says how many were purged, and went out; with a refusal of a purge
 -- nothing went out; where the writer failed all were purged
-abbrev pub SweepEnds : Asker → ℕ → Passage → Bool → Result Outcome Stop → Type 0
-    → Known → Known → Bool → Type 0
-SweepEnds who now w broken result unsent old new writer = ComesTo (record no_outcome {
-  done = (writer ≡ false)
-      × ((count : ℕ) × Sweeps who now w broken (Ok (Ok count)) × Appends old new (purged_line count));
-  refused = λ n. unsent × Sweeps who now w broken (Ok (Err n));
-  vault = λ f. unsent × Sweeps who now w broken (Err f);
-  service = λ f. (f ≡ service.Write) × (writer ≡ true)
-      × ((count : ℕ) × Sweeps who now w broken (Ok (Ok count)));
+abbrev pub SweepEnds : Asker → ℕ → Passage → Result Outcome Stop → Output → Type 0
+SweepEnds who now w result out = ComesTo (record no_outcome {
+  done = (out.writer ≡ false) × ((count : ℕ) × Sweeps who now w (Ok (Ok count))
+      × Appends out.sent_old out.sent_new (purged_line count));
+  refused = λ n. out.unsent × Sweeps who now w (Ok (Err n));
+  vault = λ f. out.unsent × Sweeps who now w (Err f);
+  service = λ f. (f ≡ service.Write) × (out.writer ≡ true)
+      × ((count : ℕ) × Sweeps who now w (Ok (Ok count)));
 }) result
 
 -- How a sweep ends whose moment the words or the clock gave. At one of the words it ends as above. At one of
 -- the clock it does too, and then the merchant's moment isn't far ahead; or that is, and it is refused by 81:
 -- nothing changed, and nothing went out; or the vault wasn't read.
-abbrev pub TimedSweepEnds : Giver → Asker → ℕ → Passage → Bool → Result Outcome Stop → Type 0
-    → Known → Known → Bool → Type 0
-TimedSweepEnds Words who now w broken result unsent old new writer =
-    SweepEnds who now w broken result unsent old new writer
-TimedSweepEnds Clock who now w broken result unsent old new writer =
+abbrev pub TimedSweepEnds : Giver → Asker → ℕ → Passage → Result Outcome Stop → Output → Type 0
+TimedSweepEnds Words who now w result out = SweepEnds who now w result out
+TimedSweepEnds Clock who now w result out =
     ((V : Content) → IsBefore w V → is_merchant_ahead V who.merchant now ≡ false)
-    × SweepEnds who now w broken result unsent old new writer
-    ⊎ (result ≡ Ok (outcome.Refused moment_ahead)) × unsent × IsUntouched w
+    × SweepEnds who now w result out
+    ⊎ (result ≡ Ok (outcome.Refused moment_ahead)) × out.unsent × IsUntouched w
     × ((V : Content) → IsBefore w V → is_merchant_ahead V who.merchant now ≡ true)
-    ⊎ ((f : Fault) × (result ≡ Err (Vault f)) × unsent × FailsToRead w broken f)
+    ⊎ ((f : Fault) × (result ≡ Err (Vault f)) × out.unsent × FailsToRead w f)
 
--- how a batch ends: its rows are answered, by nobody else and with such pairs; or it wasn't begun
-abbrev pub BatchEnds : Turns → Asker → Option ℕ → Option (List ℕ) → Passage → Result Outcome Stop
-    → Type 0 → Type 0 → Streams → Type 0
-BatchEnds tells who now digits w result unread unsent s = ComesTo (record no_outcome {
-  done = (s.writer ≡ false) × (counts : Counts) × (counts.refused ≡ 0) × IsAtEnd s.left_new
-      × Along tells 100000 now digits w s (λ p. IsBatched s.left_old p who counts);
-  some_refused = (s.writer ≡ false) × (counts : Counts) × (counts.refused ≢ 0) × IsAtEnd s.left_new
-      × Along tells 100000 now digits w s (λ p. IsBatched s.left_old p who counts);
-  batch = λ f. (f ≡ row.Source) × unread × unsent × IsUntouched w
-      ⊎ Along tells 100000 now digits w s (λ p. StopsBatch s.left_old p who f);
-}) result
+-- how a batch ends: its rows are answered, by nobody else and with pairs of its own; or it wasn't begun
+abbrev pub BatchEnds : (List Pair → Type 0) → Asker → Passage → Result Outcome Stop → Seen → Type 0
+BatchEnds Own who w result v =
+    let s : Streams = v.streams in
+    let batched : Counts → Type 0 = λ counts. Along Own 100000 w s (λ p. IsBatched s.left_old p who counts) in
+    ComesTo (record no_outcome {
+      done = (s.writer ≡ false) × (counts : Counts) × (counts.refused ≡ 0) × IsAtEnd s.left_new
+          × batched counts;
+      some_refused = (s.writer ≡ false) × (counts : Counts) × (counts.refused ≢ 0) × IsAtEnd s.left_new
+          × batched counts;
+      batch = λ f. (f ≡ row.Source) × v.unread × v.unsent × IsUntouched w
+          ⊎ Along Own 100000 w s (λ p. StopsBatch s.left_old p who f);
+    }) result
 
--- how messages end: they are served with such pairs; or it wasn't begun
-abbrev pub PipeEnds : Turns → Option ℕ → Option (List ℕ) → Passage → Result Outcome Stop → Type 0 → Type 0
-    → Streams → Type 0
-PipeEnds tells now digits w result unread unsent s = ComesTo (record no_outcome {
-  done = (s.writer ≡ false) × Along tells 1000 now digits w s (IsPiped s.left_old s.left_new);
-  service = λ f. (f ≡ service.Source) × unread × unsent × IsUntouched w
-      ⊎ Along tells 1000 now digits w s (λ p. StopsPiping s.left_old s.left_new p f);
-}) result
+-- how messages end: they are served with pairs of their own; or it wasn't begun
+abbrev pub PipeEnds : (List Pair → Type 0) → Passage → Result Outcome Stop → Seen → Type 0
+PipeEnds Own w result v =
+    let s : Streams = v.streams in
+    ComesTo (record no_outcome {
+      done = (s.writer ≡ false) × Along Own 1000 w s (IsPiped s.left_old s.left_new);
+      service = λ f. (f ≡ service.Source) × v.unread × v.unsent × IsUntouched w
+          ⊎ Along Own 1000 w s (λ p. StopsPiping s.left_old s.left_new p f);
+    }) result
 
 -- The service said on which port it listens: the one that was asked for, or any where that is 0. Then it said
 -- what was done in its turns.
@@ -142,48 +138,57 @@ abbrev pub IsListening : ℕ → Known → Known → List Turn → Type 0
 IsListening port old new turns = (bound : ℕ) × (port ≢ 0 → bound ≡ port)
     × ((middle : Known) × Appends old middle (listening_line bound) × AreSaid middle new turns)
 
+-- a service: the moments that it is told, what is asked for between two connections, its port, and how many
+-- connections it takes
+pub record Serving : Type 1 where
+  pub tells : Turns
+  pub asks : Asking
+  pub port : ℕ
+  pub most : ℕ
+
+abbrev pub serving_of : Turns → Asking → ℕ → ℕ → Serving
+serving_of tells asks port most = record { tells = tells; asks = asks; port = port; most = most }
+
 -- How a service on a port ends: it said where it listens, and in its turns each connection that came was
 -- answered, and what was asked for between two was done; or it wasn't begun, for want of digits or of a port,
 -- or since the writer failed, and there was no turn.
-abbrev pub ServeEnds : Turns → Asking → ℕ → ℕ → Passage → Result Outcome Stop → Type 0 → Known → Known → Bool
-    → List Turn → Type 0
-ServeEnds tells asks port most w result unsent old new writer turns = ComesTo (record no_outcome {
-  done = IsListening port old new turns × Leaves tells asks most turns w (Ok tt);
-  service = λ f. IsUntouched w × (turns ≡ [])
-      × ((f ≡ service.Source) × unsent ⊎ (f ≡ service.Write) × (writer ≡ true));
-  listener = λ f. (f ≡ listener.Accept) × unsent × IsUntouched w × (turns ≡ [])
-      ⊎ IsListening port old new turns × Leaves tells asks most turns w (Err f);
-}) result
+abbrev pub ServeEnds : Serving → Passage → Result Outcome Stop → Output → List Turn → Type 0
+ServeEnds it w result out turns =
+    let left : Result Unit ListenFault → Type 0 =
+    λ r. IsListening it.port out.sent_old out.sent_new turns × Leaves it.tells it.asks it.most turns w r in
+    ComesTo (record no_outcome {
+      done = left (Ok tt);
+      service = λ f. IsUntouched w × (turns ≡ [])
+          × ((f ≡ service.Source) × out.unsent ⊎ (f ≡ service.Write) × (out.writer ≡ true));
+      listener = λ f. (f ≡ listener.Accept) × out.unsent × IsUntouched w × (turns ≡ []) ⊎ left (Err f);
+    }) result
 
 -- How a task ends that makes the rights exactly those of a list: its changes end as commands do, with a line
 -- that counts them; or the rights that are held weren't read, or there was no memory for the changes.
-abbrev pub SettleEnds : ℕ → List Row → Passage → Bool → Result Outcome Stop → Type 0 → Known → Known → Bool
-    → Type 0
-SettleEnds now rows w broken result unsent old new writer =
+abbrev pub SettleEnds : ℕ → List Row → Passage → Result Outcome Stop → Output → Type 0
+SettleEnds now rows w result out =
     ((changes : Changes) × ((V : Content) → IsBefore w V → AreChangesOf true now rows V changes)
-    × CommandsEnd (CarriesAll changes.commands.items w broken) (settled_line changes) result unsent old new
-    writer)
-    ⊎ ((f : Fault) × (result ≡ Err (Vault f)) × unsent × FailsToRead w broken f)
+    × CommandsEnd (CarriesAll changes.commands.items w) (settled_line changes) result out)
+    ⊎ ((f : Fault) × (result ≡ Err (Vault f)) × out.unsent × FailsToRead w f)
 
 -- How a task ends that sets the merchants of a list: the settings that the vault lacks end as commands do,
 -- with a line that counts them; or the merchants that are held weren't read, or there was no memory for the
 -- settings.
-abbrev pub SetEnds : ℕ → List Wanted → Passage → Bool → Result Outcome Stop → Type 0 → Known → Known → Bool
-    → Type 0
-SetEnds now rows w broken result unsent old new writer =
+abbrev pub SetEnds : ℕ → List Wanted → Passage → Result Outcome Stop → Output → Type 0
+SetEnds now rows w result out =
     ((cs : List Command) × ((V : Content) → IsBefore w V → cs ≡ settings_at now rows (merchant_rows V))
-    × CommandsEnd (CarriesAll cs w broken) (merchants_line (length cs)) result unsent old new writer)
-    ⊎ ((f : Fault) × (result ≡ Err (Vault f)) × unsent × FailsToRead w broken f)
+    × CommandsEnd (CarriesAll cs w) (merchants_line (length cs)) result out)
+    ⊎ ((f : Fault) × (result ≡ Err (Vault f)) × out.unsent × FailsToRead w f)
 
 -- How a task ends that says what the vault holds: with Done the text went out, which is one function of the
 -- vault; where the writer failed, a beginning of it did. Nothing is changed.
-abbrev pub ShowEnds : (Content → List ℕ) → Passage → Bool → Result Outcome Stop → Type 0 → Known → Known
-    → Bool → Type 0
-ShowEnds text w broken result unsent old new writer = ComesTo (record no_outcome {
-  done = (writer ≡ false) × IsUntouched w × ((V : Content) → IsBefore w V → Appends old new (text V));
-  vault = λ f. unsent × FailsToRead w broken f;
-  service = λ f. (f ≡ service.Write) × (writer ≡ true)
-      × IsUntouched w × ((V : Content) → IsBefore w V → (n : ℕ) × Appends old new (take n (text V)));
+abbrev pub ShowEnds : (Content → List ℕ) → Passage → Result Outcome Stop → Output → Type 0
+ShowEnds text w result out = ComesTo (record no_outcome {
+  done = (out.writer ≡ false) × IsUntouched w
+      × ((V : Content) → IsBefore w V → Appends out.sent_old out.sent_new (text V));
+  vault = λ f. out.unsent × FailsToRead w f;
+  service = λ f. (f ≡ service.Write) × (out.writer ≡ true) × IsUntouched w
+      × ((V : Content) → IsBefore w V → (n : ℕ) × Appends out.sent_old out.sent_new (take n (text V)));
 }) result
 
 -- the passage from the vault that its commands leave
@@ -192,10 +197,10 @@ behind wants w = record w { held_old = λ U. (V : Content) × w.held_old V × (U
 
 -- How what the lists of a service ask for ends before it listens, where it isn't all done: refused, or
 -- stopped by the vault. Nothing goes out.
-abbrev pub BeginEnds : Lists → Passage → Bool → Result Outcome Stop → Type 0 → Type 0
-BeginEnds lists w broken result unsent = ComesTo (record no_outcome {
-  refused = λ n. unsent × CarriesOut (begin_of lists) w broken (Ok (Err n));
-  vault = λ f. unsent × CarriesOut (begin_of lists) w broken (Err f);
+abbrev pub BeginEnds : Lists → Passage → Result Outcome Stop → Type 0 → Type 0
+BeginEnds lists w result unsent = ComesTo (record no_outcome {
+  refused = λ n. unsent × CarriesOut (begin_of lists) w (Ok (Err n));
+  vault = λ f. unsent × CarriesOut (begin_of lists) w (Err f);
 }) result
 
 -- with Done the writer hasn't failed
@@ -204,44 +209,36 @@ EndsUnfailed result writer = result ≡ Ok outcome.Done → writer ≡ false
 
 -- How a service ends that may follow lists. What they ask for before it listens isn't all done, and there is
 -- no turn. Or it is, and then it ends as a service does, from the vault that this leaves.
-abbrev pub ListedServeEnds : Outside → ℕ → ℕ → Lists → Passage → Bool → Result Outcome Stop → Type 0
-    → Known → Known → Bool → List Turn → Type 0
-ListedServeEnds at port most lists w broken result unsent old new writer turns =
-    (follows lists ≡ true) × (turns ≡ []) × BeginEnds lists w broken result unsent
+abbrev pub ListedServeEnds : Serving → Lists → Passage → Result Outcome Stop → Output → List Turn → Type 0
+ListedServeEnds it lists w result out turns =
+    (follows lists ≡ true) × (turns ≡ []) × BeginEnds lists w result out.unsent
     ⊎ ((V : Content) → IsBefore w V → AreDone (length (begin_of lists V)) (begin_of lists V) V)
-    × ServeEnds at.tells (asked_of at lists) port most (behind (begin_of lists) w) result unsent old new
-    writer turns × (follows lists ≡ false → EndsUnfailed result writer)
+    × ServeEnds it (behind (begin_of lists) w) result out turns
+    × (follows lists ≡ false → EndsUnfailed result out.writer)
 
 -- what a task does with a vault, and what goes out, by how it ends
-abbrev pub Works : Outside → Task → Passage → Bool → Result Outcome Stop → Type 0 → Type 0 → Streams → Type 0
-Works at (Change c) w broken result unread unsent s =
-    ChangeEnds c w broken result unsent s.sent_old s.sent_new s.writer
-Works at (Give rows now) w broken result unread unsent s =
-    CommandsEnd (CarriesAll (grants_at now rows.items) w broken) (granted_line (length rows.items)) result
-    unsent s.sent_old s.sent_new s.writer
-Works at (Settle rows now) w broken result unread unsent s =
-    SettleEnds now rows.items w broken result unsent s.sent_old s.sent_new s.writer
-Works at (SetMerchants rows now) w broken result unread unsent s =
-    SetEnds now rows.items w broken result unsent s.sent_old s.sent_new s.writer
-Works at (Sweep who now giver) w broken result unread unsent s =
-    TimedSweepEnds giver who now w broken result unsent s.sent_old s.sent_new s.writer
-Works at (Batch who now digits) w broken result unread unsent s =
-    BatchEnds at.tells who now digits w result unread unsent s
-Works at (Pipe now digits) w broken result unread unsent s =
-    PipeEnds at.tells now digits w result unread unsent s
-Works at (Serve port connections lists) w broken result unread unsent s =
-    ListedServeEnds at port connections lists w broken result unsent s.sent_old s.sent_new s.writer s.turns
-Works at (Show it) w broken result unread unsent s =
-    ShowEnds (shown_text it) w broken result unsent s.sent_old s.sent_new s.writer
+abbrev pub Works : Outside → Task → Passage → Result Outcome Stop → Seen → Type 0
+Works at (Change c) w result v = ChangeEnds c w result (output_in v)
+Works at (Give rows now) w result v = CommandsEnd (CarriesAll (grants_at now rows.items) w)
+    (granted_line (length rows.items)) result (output_in v)
+Works at (Settle rows now) w result v = SettleEnds now rows.items w result (output_in v)
+Works at (SetMerchants rows now) w result v = SetEnds now rows.items w result (output_in v)
+Works at (Sweep who now giver) w result v = TimedSweepEnds giver who now w result (output_in v)
+Works at (Batch who now digits) w result v = BatchEnds (AreGiven at.tells now digits) who w result v
+Works at (Pipe now digits) w result v = PipeEnds (AreGiven at.tells now digits) w result v
+Works at (Serve port connections lists) w result v =
+    ListedServeEnds (serving_of at.tells (asked_of at lists) port connections) lists w result (output_in v)
+    v.streams.turns
+Works at (Show it) w result v = ShowEnds (shown_text it) w result (output_in v)
 
 -- What a task does: it works so; what is noted of it is exactly what is to be; the input is unread, but by a
 -- batch and messages; there are no turns, but of a service; a reader or a writer stops it only where that
 -- failed; and the vault is broken by a store that fails.
-pub record Does (at : Outside) (task : Task) (w : Passage) (broken : Bool) (result : Result Outcome Stop)
-    (note : Option Note) (unread unsent : Type 0) (s : Streams) : Type 0 where
-  pub works : Works at task w broken result unread unsent s
+pub record Does (at : Outside) (task : Task) (w : Passage) (result : Result Outcome Stop)
+    (note : Option Note) (v : Seen) : Type 0 where
+  pub works : Works at task w result v
   pub noted : IsNoted task w result note
-  pub begun : IsTaskBegun task unread
-  pub alone : HasNoTurns task s
-  pub caused : IfErr result (λ stop. IsCauseOf stop s)
-  pub breaks : BreaksBy task result broken
+  pub begun : IsTaskBegun task v.unread
+  pub alone : HasNoTurns task v.streams
+  pub caused : IfErr result (λ stop. IsCauseOf stop v.streams)
+  pub breaks : BreaksBy task result w.broken

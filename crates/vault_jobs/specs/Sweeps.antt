@@ -1,5 +1,5 @@
 -- The numbers of a merchant's dead tokens, purged at one moment.
-use Rattle.std.specs.Prelude.{◌≡◌, ℕ, ◌≤◌, List, [], ◌∷◌, ◌++◌, length, Bool, true, Result, Ok, Err}
+use Rattle.std.specs.Prelude.{◌≡◌, ℕ, ◌≤◌, List, [], ◌∷◌, ◌++◌, length, true, Result, Ok, Err}
 use Rattle.vault_core.specs.Dead.{dead_tokens}
 use Rattle.vault_core.specs.Keys.{Bytes}
 use Rattle.vault_core.specs.Runs.{run}
@@ -45,19 +45,19 @@ Begin first whole = (rest : List Bytes) × (whole ≡ first ++ rest)
 -- left; so many they are. Refused: those of the first are done, and that of the next one is refused by this
 -- number; nothing after it. 20: those of the first are done, and nothing else is. 21: those of the first are
 -- done, the vault is broken, and a crash leaves the vault before the next one's or the one after it.
-abbrev pub Sweeps : Asker → ℕ → Passage → Bool → Result (Result ℕ ℕ) Fault → Type 0
-Sweeps who now w broken (Ok (Ok count)) = (tokens : List Bytes) × ((V : Content) → IsBefore w V
+abbrev pub Sweeps : Asker → ℕ → Passage → Result (Result ℕ ℕ) Fault → Type 0
+Sweeps who now w (Ok (Ok count)) = (tokens : List Bytes) × ((V : Content) → IsBefore w V
     → AreSwept who now tokens V × (left_dead who now tokens V ≡ []) × (count ≡ length tokens)
     × Keeps w (swept_vault who now tokens V))
-Sweeps who now w broken (Ok (Err n)) = (tokens : List Bytes) × (next : Bytes)
+Sweeps who now w (Ok (Err n)) = (tokens : List Bytes) × (next : Bytes)
     × ((V : Content) → IsBefore w V → AreSwept who now tokens V
     × Begin (next ∷ []) (left_dead who now tokens V)
     × (reply (swept_vault who now tokens V) (purge_at who now next) ≡ answer.Refused n)
     × Keeps w (swept_vault who now tokens V))
-Sweeps who now w broken (Err Memory) = (tokens : List Bytes) × ((V : Content) → IsBefore w V
+Sweeps who now w (Err Memory) = (tokens : List Bytes) × ((V : Content) → IsBefore w V
     → AreSwept who now tokens V × Keeps w (swept_vault who now tokens V))
-Sweeps who now w broken (Err Store) = (tokens next : List Bytes) × (length next ≤ 1)
-    × ((V : Content) → IsBefore w V → (broken ≡ true) × AreSwept who now tokens V
+Sweeps who now w (Err Store) = (tokens next : List Bytes) × (length next ≤ 1)
+    × ((V : Content) → IsBefore w V → (w.broken ≡ true) × AreSwept who now tokens V
     × Begin next (left_dead who now tokens V)
     × w.left_new (swept_vault who now tokens V) (swept_vault who now (tokens ++ next) V))
-Sweeps who now w broken (Err Reopen) = ⊥
+Sweeps who now w (Err Reopen) = ⊥

@@ -10,13 +10,12 @@ use Rattle.vault_core.specs.declared.command.Command.TheVariants.{Grant}
 use Rattle.vault_core.specs.declared.right.Right.{Right}
 use Rattle.vault_core.specs.declared.right.Right.TheVariants.{Tokenize, Detokenize, View}
 use Rattle.vault_core.specs.declared.right.Right.TheVariants.{Revoke, Purge, Audit}
-use Rattle.vault_listen.specs.Live.{AreGiven, Turns}
 use Rattle.vault_wire.specs.Messages.{Request, Reads}
 use Rattle.vault_wire.specs.declared.fault.WireFault.{WireFault}
 use Rattle.vault_wire.specs.Parts.{Parts}
 use Rattle.vault_http.specs.Exchanges.{answer_for, has_close, last_text, message_kind, shown}
 use Rattle.vault_engine.specs.Answered.{pairs_of, units_of}
-use Rattle.vault_engine.specs.Asking.{Asked, Asks, texts}
+use Rattle.vault_engine.specs.Asking.{Asked, Asks, Pair, texts}
 use Rattle.vault_http.specs.Exchanges.{up_to_close}
 use Rattle.vault_http.specs.Served.{Begins, answered_fault}
 use Rattle.vault_jobs.specs.Streams.{Known}
@@ -45,19 +44,18 @@ trial_vault caller m life now =
     left_by_all empty_vault (setting m (usual_lives life 0 now) ∷ grants caller m now all_rights)
 
 -- The bytes that were read are messages, and an open rest or a fault. All messages up to the first that
--- closes are asked, each with a pair of the fixed moment and digits, where these are fixed, or else of
--- a moment told for it; what went out is
--- the texts that answer them, each by the vault that those before it leave, and then the one that answers
--- the fault; and where nothing closes, no byte is left.
-pub record IsTrial (tells : Turns) (left_old left_new sent_old sent_new : Known) (V : Content)
-    (now : Option ℕ) (digits : Option (List ℕ)) : Type 0 where
+-- closes are asked, each with a pair of the trial's own. What went out is the texts that answer them, each by
+-- the vault that those before it leave, and then the one that answers the fault; and where nothing closes, no
+-- byte is left.
+pub record IsTrial (Own : List Pair → Type 0) (V : Content) (left_old left_new sent_old sent_new : Known)
+    : Type 0 where
   pub bytes : List ℕ
   pub messages : List Request
   pub fault : Option WireFault
   pub exchanges : List (Asked Parts)
   pub read : Consumes left_old left_new bytes
   pub reads : Reads bytes messages fault
-  pub fixed : AreGiven tells now digits (pairs_of exchanges)
+  pub fixed : Own (pairs_of exchanges)
   pub asked : All (Asks message_kind) exchanges
   pub whole : units_of exchanges ≡ up_to_close (shown messages)
   pub ended : has_close (shown messages) ≡ false → fault ≡ None → IsAtEnd left_new
@@ -74,8 +72,8 @@ IsLast bytes messages exchanges (Some e) =
 -- The bytes that were read begin with messages. The first of them, up to the first that closes at most, are
 -- asked as in a trial, and of the texts that answer them, and the one that answers a fault after them, a
 -- beginning went out.
-pub record IsCut (tells : Turns) (left_old left_new sent_old sent_new : Known) (V : Content)
-    (now : Option ℕ) (digits : Option (List ℕ)) : Type 0 where
+pub record IsCut (Own : List Pair → Type 0) (V : Content) (left_old left_new sent_old sent_new : Known)
+    : Type 0 where
   pub bytes : List ℕ
   pub messages : List Request
   pub exchanges : List (Asked Parts)
@@ -84,7 +82,7 @@ pub record IsCut (tells : Turns) (left_old left_new sent_old sent_new : Known) (
   pub count : ℕ
   pub read : Consumes left_old left_new bytes
   pub begins : Begins bytes messages
-  pub fixed : AreGiven tells now digits (pairs_of exchanges)
+  pub fixed : Own (pairs_of exchanges)
   pub asked : All (Asks message_kind) exchanges
   pub first : up_to_close (shown messages) ≡ units_of exchanges ++ rest
   pub ends : IsLast bytes messages exchanges last

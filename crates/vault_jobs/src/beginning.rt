@@ -1,13 +1,13 @@
 //! What the lists of a service ask for before it listens.
 ghost use Rattle.std.specs.Prelude.{◌≡◌, All, IfSome, Ok, false};
-ghost use Rattle.vault_store.specs.Applied.{is_broken, tables_of};
-ghost use Rattle.vault_engine.specs.Passing.{Passage};
-ghost use Rattle.vault_listen.specs.Peers.{vault_passing};
+ghost use Rattle.vault_store.specs.Applied.{is_broken};
+ghost use Rattle.vault_engine.specs.Passing.{passage};
 ghost use Rattle.vault_changes.specs.Failing.{BreaksByStore};
 ghost use Rattle.vault_changes.specs.Settings.{HasLives};
 ghost use Rattle.vault_live.specs.Kinds.{merchants_changes, rights_changes};
 ghost use Rattle.vault_jobs.specs.Beginning.{CarriesOut};
 ghost use Rattle.vault_jobs.specs.Lists.{begin_of, first_of, follows};
+ghost use Rattle.vault_store.specs.LookUps.{WasHonest};
 
 use crate::lists::{ListFile, Lists};
 use std::alloc::Global;
@@ -30,14 +30,12 @@ fn set_first<T: Tables>(
     requires lives { IfSome listed.now (λ it. All HasLives it.rows.items) }
     requires unbroken { is_broken vault.old ≡ false }
     // on an honest disk, what it asks for is carried out up to the first that isn't done
-    ensures carried { let w : Passage = vault_passing T.is_honest T.holds T.leaves vault.old vault.new in
-        CarriesOut (first_of merchants_changes listed.now) w (is_broken vault.new) result }
+    ensures carried { CarriesOut (first_of merchants_changes listed.now)
+        (passage T.Tables vault.old vault.new) result }
     // where there is none, nothing is to be done
     ensures none { listed.now ≡ None → result ≡ Ok (Ok tt) }
-    // the vault is broken after Store only
     ensures broken { BreaksByStore vault.new result }
-    // a disk that is honest after the call was so before it
-    ensures disk_honest { T.is_honest (tables_of vault.new) → T.is_honest (tables_of vault.old) }
+    ensures disk_honest { WasHonest T.Tables vault.old vault.new }
 {
     let Some(it) = listed else {
         return Ok(Ok(()));
@@ -56,17 +54,14 @@ fn settle_first<T: Tables>(
     vault: &mut Vault<T>,
     listed: &Option<ListFile<ListedRight>>,
 ) -> Result<Result<(), u8>, Fault>
-    // the vault isn't broken
-    requires { is_broken vault.old ≡ false }
+    requires unbroken { is_broken vault.old ≡ false }
     // on an honest disk, what it asks for is carried out up to the first that isn't done
-    ensures carried { let w : Passage = vault_passing T.is_honest T.holds T.leaves vault.old vault.new in
-        CarriesOut (first_of rights_changes listed.now) w (is_broken vault.new) result }
+    ensures carried { CarriesOut (first_of rights_changes listed.now) (passage T.Tables vault.old vault.new)
+        result }
     // where there is none, nothing is to be done
     ensures none { listed.now ≡ None → result ≡ Ok (Ok tt) }
-    // the vault is broken after Store only
     ensures broken { BreaksByStore vault.new result }
-    // a disk that is honest after the call was so before it
-    ensures disk_honest { T.is_honest (tables_of vault.new) → T.is_honest (tables_of vault.old) }
+    ensures disk_honest { WasHonest T.Tables vault.old vault.new }
 {
     let Some(it) = listed else {
         return Ok(Ok(()));
@@ -90,14 +85,11 @@ pub(crate) fn begin<T: Tables>(
     requires lives { IfSome lists.now.merchants (λ it. All HasLives it.rows.items) }
     requires unbroken { is_broken vault.old ≡ false }
     // on an honest disk, what they ask for is carried out up to the first that isn't done
-    ensures carried { let w : Passage = vault_passing T.is_honest T.holds T.leaves vault.old vault.new in
-        CarriesOut (begin_of lists.now) w (is_broken vault.new) result }
+    ensures carried { CarriesOut (begin_of lists.now) (passage T.Tables vault.old vault.new) result }
     // where there are none, nothing is to be done
     ensures none { follows lists.now ≡ false → result ≡ Ok (Ok tt) }
-    // the vault is broken after Store only
     ensures broken { BreaksByStore vault.new result }
-    // a disk that is honest after the call was so before it
-    ensures disk_honest { T.is_honest (tables_of vault.new) → T.is_honest (tables_of vault.old) }
+    ensures disk_honest { WasHonest T.Tables vault.old vault.new }
 {
     match set_first(alloc, vault, &lists.merchants) {
         Ok(Ok(())) => settle_first(alloc, vault, &lists.rights),

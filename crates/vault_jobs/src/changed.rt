@@ -2,18 +2,18 @@
 ghost use Rattle.std.specs.Prelude.{◌≡◌, IfErr, IfOk, codes, false};
 ghost use Rattle.vault_core.specs.Proper.{HasLivesInRange};
 ghost use Rattle.vault_core.specs.Vault.{Vault as Content};
-ghost use Rattle.vault_store.specs.Applied.{is_broken, tables_of};
-ghost use Rattle.vault_engine.specs.Passing.{IsBefore, Keeps, Passage};
-ghost use Rattle.vault_listen.specs.Peers.{vault_passing};
+ghost use Rattle.vault_store.specs.Applied.{is_broken};
+ghost use Rattle.vault_engine.specs.Passing.{IsBefore, Keeps, Passage, passage};
 ghost use Rattle.vault_changes.specs.Carried.{Carries};
 ghost use Rattle.vault_changes.specs.Failing.{BreaksByStore};
 ghost use Rattle.vault_changes.specs.Settling.{FailsToRead};
-ghost use Rattle.vault_wire.specs.Watching.{inner_of, is_stopped};
 ghost use Rattle.vault_jobs.specs.Doing.{ChangeEnds, CommandsEnd};
 ghost use Rattle.vault_jobs.specs.Notes.{IsNoted, has_right as has_right_in, is_among as is_among_in};
 ghost use Rattle.vault_jobs.specs.Notes.{right_note, withdrawn_by};
+ghost use Rattle.vault_jobs.specs.Streams.{output_of};
 ghost use Rattle.vault_jobs.specs.Tasks.{BreaksTask};
 ghost use Rattle.vault_jobs.specs.declared.task.Task.TheVariants.{Change};
+ghost use Rattle.vault_store.specs.LookUps.{WasHonest};
 
 use crate::answer::answer;
 use crate::note::{Note, beside};
@@ -62,20 +62,14 @@ fn is_among(held: &[RightRow], right: RightKey) -> bool
 ///
 /// 20 Memory: memory was refused. 21 Store: the store failed.
 fn has_right<T: Tables>(vault: &mut Vault<T>, right: RightKey) -> Result<bool, Fault>
-    // the vault isn't broken
-    requires { is_broken vault.old ≡ false }
+    requires unbroken { is_broken vault.old ≡ false }
     // on an honest disk, Ok says it of each vault that was held, and that one is held still, after a crash
     // too
-    ensures told { let w : Passage = vault_passing T.is_honest T.holds T.leaves vault.old vault.new in
+    ensures told { let w : Passage = passage T.Tables vault.old vault.new in
         IfOk result (λ has. (V : Content) → IsBefore w V → (has ≡ has_right_in V right) × Keeps w V) }
-    // on an honest disk, Memory keeps a vault that was held, and Store breaks it, but a crash leaves it;
-    // Reopen never comes
-    ensures failed { let w : Passage = vault_passing T.is_honest T.holds T.leaves vault.old vault.new in
-        IfErr result (FailsToRead w (is_broken vault.new)) }
-    // the vault is broken after Store only
+    ensures failed { IfErr result (FailsToRead (passage T.Tables vault.old vault.new)) }
     ensures broken { BreaksByStore vault.new result }
-    // a disk that is honest after the call was so before it
-    ensures disk_honest { T.is_honest (tables_of vault.new) → T.is_honest (tables_of vault.old) }
+    ensures disk_honest { WasHonest T.Tables vault.old vault.new }
 {
     match vault.rights() {
         Ok(held) => Ok(is_among(held.as_slice(), right)),
@@ -105,14 +99,10 @@ fn do_command<W: Write, T: Tables>(
     requires unbroken { is_broken vault.old ≡ false }
     // with Done the line `done` went out; with Done or Write, on an honest disk, the command is done; else
     // nothing went out
-    ensures does { let w : Passage = vault_passing T.is_honest T.holds T.leaves vault.old vault.new in
-        CommandsEnd (Carries command.now w (is_broken vault.new)) (codes "done\n") result
-        (output.new ≡ output.old) (W.contents (inner_of output.old)) (W.contents (inner_of output.new))
-        (is_stopped output.new) }
-    // the vault is broken only where the store failed
+    ensures does { CommandsEnd (Carries command.now (passage T.Tables vault.old vault.new)) (codes "done\n")
+        result (output_of W.contents output.old output.new) }
     ensures breaks { BreaksTask vault.new result }
-    // a disk that is honest after the call was so before it
-    ensures disk_honest { T.is_honest (tables_of vault.new) → T.is_honest (tables_of vault.old) }
+    ensures disk_honest { WasHonest T.Tables vault.old vault.new }
 {
     match change(vault, command) {
         Ok(Ok(())) => match answer(output, &["done\n"]) {
@@ -135,16 +125,12 @@ pub(crate) fn do_change<W: Write, T: Tables>(
     requires unbroken { is_broken vault.old ≡ false }
     // with Done the line `done` went out; with Done or Write, on an honest disk, the command is done; else
     // nothing went out
-    ensures does { let w : Passage = vault_passing T.is_honest T.holds T.leaves vault.old vault.new in
-        ChangeEnds command.now w (is_broken vault.new) result.0 (output.new ≡ output.old)
-        (W.contents (inner_of output.old)) (W.contents (inner_of output.new)) (is_stopped output.new) }
+    ensures does { ChangeEnds command.now (passage T.Tables vault.old vault.new) result.0
+        (output_of W.contents output.old output.new) }
     // beside a right that is taken away stands, on an honest disk, exactly that it wasn't held
-    ensures noted { let w : Passage = vault_passing T.is_honest T.holds T.leaves vault.old vault.new in
-        IsNoted (Change command.now) w result.0 result.1 }
-    // the vault is broken only where the store failed
+    ensures noted { IsNoted (Change command.now) (passage T.Tables vault.old vault.new) result.0 result.1 }
     ensures breaks { BreaksTask vault.new result.0 }
-    // a disk that is honest after the call was so before it
-    ensures disk_honest { T.is_honest (tables_of vault.new) → T.is_honest (tables_of vault.old) }
+    ensures disk_honest { WasHonest T.Tables vault.old vault.new }
 {
     let Some(right) = withdrawn(command) else {
         return (do_command(vault, command, output), None);

@@ -1,10 +1,10 @@
 //! Rights given one after the other.
-ghost use Rattle.std.specs.Prelude.{◌≡◌, Err, false};
-ghost use Rattle.vault_store.specs.Applied.{is_broken, tables_of};
-ghost use Rattle.vault_engine.specs.Passing.{Passage};
-ghost use Rattle.vault_listen.specs.Peers.{vault_passing};
+ghost use Rattle.std.specs.Prelude.{◌≡◌, false};
+ghost use Rattle.vault_store.specs.Applied.{is_broken};
+ghost use Rattle.vault_engine.specs.Passing.{passage};
 ghost use Rattle.vault_changes.specs.Failing.{BreaksByStore};
 ghost use Rattle.vault_changes.specs.Grants.{CarriesAll, grants_at};
+ghost use Rattle.vault_store.specs.LookUps.{WasHonest};
 
 use vault_changes::carry::{Orders, carry_all};
 use vault_changes::changes::ListedRight;
@@ -44,16 +44,12 @@ pub fn give_all<T: Tables>(
     rights: &[ListedRight],
     now: Moment,
 ) -> Result<Result<(), u8>, Fault>
-    // the vault isn't broken
-    requires { is_broken vault.old ≡ false }
+    requires unbroken { is_broken vault.old ≡ false }
     // on an honest disk, all grants before the first that isn't done are kept; with Store a crash leaves that
     // one done or not
-    ensures carried { let w : Passage = vault_passing T.is_honest T.holds T.leaves vault.old vault.new in
-        CarriesAll (grants_at now rights.now) w (is_broken vault.new) result }
-    // the vault is broken after Store only
+    ensures carried { CarriesAll (grants_at now rights.now) (passage T.Tables vault.old vault.new) result }
     ensures broken { BreaksByStore vault.new result }
-    // a disk that is honest after the call was so before it
-    ensures disk_honest { T.is_honest (tables_of vault.new) → T.is_honest (tables_of vault.old) }
+    ensures disk_honest { WasHonest T.Tables vault.old vault.new }
 {
     carry_all(vault, &Grants { now }, rights)
 }

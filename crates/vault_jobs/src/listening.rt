@@ -1,12 +1,13 @@
 //! A vault served on a port.
-ghost use Rattle.std.specs.Prelude.{◌≡◌, ◌++◌, Err, List, false, true};
-ghost use Rattle.vault_store.specs.Applied.{is_broken, tables_of};
-ghost use Rattle.vault_wire.specs.Watching.{inner_of, is_stopped};
-ghost use Rattle.vault_engine.specs.Passing.{Passage};
-ghost use Rattle.vault_listen.specs.Peers.{Event, vault_passing};
-ghost use Rattle.vault_live.specs.Turns.{Turn, events_in};
-ghost use Rattle.vault_jobs.specs.Doing.{EndsUnfailed, ServeEnds};
+ghost use Rattle.std.specs.Prelude.{◌≡◌, Err, List, false, true};
+ghost use Rattle.vault_store.specs.Applied.{is_broken};
+ghost use Rattle.vault_wire.specs.Watching.{is_stopped};
+ghost use Rattle.vault_engine.specs.Passing.{passage};
+ghost use Rattle.vault_live.specs.Turns.{TellsTurns, Turn};
+ghost use Rattle.vault_jobs.specs.Doing.{EndsUnfailed, ServeEnds, serving_of};
+ghost use Rattle.vault_jobs.specs.Streams.{output_of};
 ghost use Rattle.vault_jobs.specs.Tasks.{BreaksTask, FailsStore};
+ghost use Rattle.vault_store.specs.LookUps.{WasHonest};
 
 use crate::answer::answer;
 use crate::stop::Stop;
@@ -45,20 +46,15 @@ pub fn serve_at<K: Timekeeper, N: Network, O: Office, W: Write, T: Tables>(
     requires unbroken { is_broken vault.old ≡ false }
     // it said its port, and its turns are those that the network tells of; or there was none, and on an
     // honest disk the vault stayed
-    ensures does { let w : Passage = vault_passing T.is_honest T.holds T.leaves vault.old vault.new in
-        (turns : List Turn)
-        × ((log : List Event) → N.tells network.old log → N.tells network.new (log ++ events_in turns))
-        × ServeEnds (K.tells time.now) (O.asks office.now (K.tells time.now)) port connections w result
-        (output.new ≡ output.old) (W.contents (inner_of output.old)) (W.contents (inner_of output.new))
-        (is_stopped output.new) turns }
-    // the vault is broken only where the store failed
+    ensures does { (turns : List Turn) × TellsTurns (N.tells network.old) (N.tells network.new) turns
+        × ServeEnds (serving_of (K.tells time.now) (O.asks office.now (K.tells time.now)) port connections)
+        (passage T.Tables vault.old vault.new) result (output_of W.contents output.old output.new) turns }
     ensures broken { BreaksTask vault.new result }
     // and there always, where the office carries out nothing
     ensures store { O.acts office.now ≡ false → FailsStore result → is_broken vault.new ≡ true }
     // and then, with Done, the writer hasn't failed
     ensures writer_ok { O.acts office.now ≡ false → EndsUnfailed result (is_stopped output.new) }
-    // a disk that is honest after the call was so before it
-    ensures disk_honest { T.is_honest (tables_of vault.new) → T.is_honest (tables_of vault.old) }
+    ensures disk_honest { WasHonest T.Tables vault.old vault.new }
 {
     let Ok(mut generator) = make_rng::<StdRng, _>(rt) else {
         return Err(Stop::Service(ServeFault::Source));

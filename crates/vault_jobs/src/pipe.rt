@@ -1,9 +1,8 @@
 //! The messages of standard input answered on standard output.
-ghost use Rattle.std.specs.Prelude.{Err, IfErr, OnOk};
-ghost use Rattle.vault_store.specs.Applied.{is_broken};
-ghost use Rattle.vault_wire.specs.Watching.{inner_of, is_stopped};
-ghost use Rattle.vault_http.specs.Faults.{Tells, failures};
-ghost use Rattle.vault_engine.specs.Passing.{Passage, passing};
+ghost use Rattle.std.specs.Prelude.{◌≡◌, Err, IfErr, OnOk};
+ghost use Rattle.vault_wire.specs.Watching.{inner_of};
+ghost use Rattle.vault_http.specs.Faults.{Tells, failures_of};
+ghost use Rattle.vault_engine.specs.Passing.{Passage, giving, passage, sending};
 ghost use Rattle.vault_jobs.specs.Failing.{GoesOn};
 ghost use Rattle.vault_jobs.specs.Piped.{IsPiped, StopsPiping};
 ghost use Rattle.vault_engine.specs.Stops.{Trusts};
@@ -32,27 +31,23 @@ pub fn pipe<R: Read, W: Write, T: Tables, S: Source>(
 ) -> Result<(), ServeFault>
     // with Ok, on an honest disk, messages up to the first that closes are answered, a fault too, and what
     // they leave is kept
-    ensures served { let w : Passage = passing S.given source.old source.new W.contents output.old output.new
-        T.is_honest T.holds T.leaves vault.old vault.new in
+    ensures served { let w : Passage = sending W.contents output.old output.new
+        (giving S.given source.old source.new (passage T.Tables vault.old vault.new)) in
         OnOk result (IsPiped (R.remaining (inner_of input.old)) (R.remaining (inner_of input.new)) w) }
     // the fault says at which message it stopped, and what went out and is kept; or all are answered, and it
     // is Write
-    ensures stopped { let w : Passage = passing S.given source.old source.new W.contents output.old output.new
-        T.is_honest T.holds T.leaves vault.old vault.new in
+    ensures stopped { let w : Passage = sending W.contents output.old output.new
+        (giving S.given source.old source.new (passage T.Tables vault.old vault.new)) in
         IfErr result (StopsPiping (R.remaining (inner_of input.old)) (R.remaining (inner_of input.new)) w) }
     // with Ok, the writer hasn't failed
     ensures writer_ok { GoesOn result output.new }
-    // the stop's own one of source, reader, writer and vault has failed; whether the others have stays as it
-    // was
+    // a stop but Memory tells which of source, reader, writer and vault has failed; all else stays as it was
     ensures own_failure { Tells result
-        (failures (S.has_refused source.old) (is_stopped input.old) (is_stopped output.old)
-        (is_broken vault.old))
-        (failures (S.has_refused source.new) (is_stopped input.new) (is_stopped output.new)
-        (is_broken vault.new)) }
+        (failures_of (S.has_refused source.old) input.old output.old vault.old)
+        (failures_of (S.has_refused source.new) input.new output.new vault.new) }
     // the source is the same, further on
     ensures later { S.precedes source.old source.new }
-    // an honest disk was honest before, and tables that can't fail don't
-    ensures trusted { Trusts T.is_honest T.may_fail vault.old vault.new result }
+    ensures trusted { Trusts T.Tables vault.old vault.new (result ≡ Err ServeFault.Store) }
 {
     match serve(alloc, input, output, vault, source) {
         Ok(_) => match output.flush() {

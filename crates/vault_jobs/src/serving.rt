@@ -1,16 +1,17 @@
 //! A vault served on a port, with the lists that are followed.
-ghost use Rattle.std.specs.Prelude.{◌≡◌, ◌++◌, All, IfSome, List, false, true};
-ghost use Rattle.vault_store.specs.Applied.{is_broken, tables_of};
-ghost use Rattle.vault_wire.specs.Watching.{inner_of, is_stopped};
-ghost use Rattle.vault_engine.specs.Passing.{Passage};
-ghost use Rattle.vault_listen.specs.Peers.{Event, vault_passing};
+ghost use Rattle.std.specs.Prelude.{◌≡◌, All, IfSome, List, false, true};
+ghost use Rattle.vault_store.specs.Applied.{is_broken};
+ghost use Rattle.vault_wire.specs.Watching.{is_stopped};
+ghost use Rattle.vault_engine.specs.Passing.{passage};
 ghost use Rattle.vault_changes.specs.Settings.{HasLives};
-ghost use Rattle.vault_live.specs.Turns.{Turn, events_in};
-ghost use Rattle.vault_jobs.specs.Doing.{EndsUnfailed, ListedServeEnds, ServeEnds};
+ghost use Rattle.vault_live.specs.Turns.{TellsTurns, Turn};
+ghost use Rattle.vault_jobs.specs.Doing.{EndsUnfailed, ListedServeEnds, ServeEnds, serving_of};
 ghost use Rattle.vault_jobs.specs.Lists.{asked_of, follows};
 ghost use Rattle.vault_jobs.specs.Outside.{outside};
+ghost use Rattle.vault_jobs.specs.Streams.{output_of};
 ghost use Rattle.vault_jobs.specs.Tasks.{BreaksBy, BreaksTask, FailsStore};
 ghost use Rattle.vault_jobs.specs.declared.task.Task.{Task};
+ghost use Rattle.vault_store.specs.LookUps.{WasHonest};
 
 use crate::beginning::begin;
 use crate::listening::serve_at;
@@ -42,24 +43,19 @@ fn serve_following<K: Timekeeper, N: Network, D: Desk, W: Write, T: Tables>(
     vault: &mut Vault<T>,
     output: &mut Watched<W>,
 ) -> Result<Outcome, Stop>
-    // the vault isn't broken
-    requires { is_broken vault.old ≡ false }
+    requires unbroken { is_broken vault.old ≡ false }
     // it said its port, and its turns are those that the network tells of; or there was none, and on an
     // honest disk the vault stayed
-    ensures does { let w : Passage = vault_passing T.is_honest T.holds T.leaves vault.old vault.new in
-        (turns : List Turn)
-        × ((log : List Event) → N.tells network.old log → N.tells network.new (log ++ events_in turns))
-        × ServeEnds (K.tells time.now) (asked_of (outside (K.tells time.now) (D.says desk.now)) lists.now)
-        port connections w result (output.new ≡ output.old) (W.contents (inner_of output.old))
-        (W.contents (inner_of output.new)) (is_stopped output.new) turns }
-    // the vault is broken only where the store failed
+    ensures does { (turns : List Turn) × TellsTurns (N.tells network.old) (N.tells network.new) turns
+        × ServeEnds (serving_of (K.tells time.now) (asked_of (outside (K.tells time.now) (D.says desk.now))
+        lists.now) port connections) (passage T.Tables vault.old vault.new) result
+        (output_of W.contents output.old output.new) turns }
     ensures broken { BreaksTask vault.new result }
     // and there always, where nothing is followed
     ensures store { follows lists.now ≡ false → FailsStore result → is_broken vault.new ≡ true }
     // and then, with Done, the writer hasn't failed
     ensures writer_ok { follows lists.now ≡ false → EndsUnfailed result (is_stopped output.new) }
-    // a disk that is honest after the call was so before it
-    ensures disk_honest { T.is_honest (tables_of vault.new) → T.is_honest (tables_of vault.old) }
+    ensures disk_honest { WasHonest T.Tables vault.old vault.new }
 {
     let office = Both {
         first: office_of::<D, Merchants>(rt.alloc(), desk, &lists.merchants),
@@ -106,16 +102,13 @@ pub(crate) fn serve_lists<K: Timekeeper, N: Network, D: Desk, W: Write, T: Table
     requires unbroken { is_broken vault.old ≡ false }
     // what the lists ask for is done before it listens, or there was no turn; from the vault that this leaves
     // it ends as a service
-    ensures does { let w : Passage = vault_passing T.is_honest T.holds T.leaves vault.old vault.new in
-        (turns : List Turn)
-        × ((log : List Event) → N.tells network.old log → N.tells network.new (log ++ events_in turns))
-        × ListedServeEnds (outside (K.tells time.now) (D.says desk.now)) port connections lists.now w
-        (is_broken vault.new) result (output.new ≡ output.old) (W.contents (inner_of output.old))
-        (W.contents (inner_of output.new)) (is_stopped output.new) turns }
+    ensures does { (turns : List Turn) × TellsTurns (N.tells network.old) (N.tells network.new) turns
+        × ListedServeEnds (serving_of (K.tells time.now)
+        (asked_of (outside (K.tells time.now) (D.says desk.now)) lists.now) port connections) lists.now
+        (passage T.Tables vault.old vault.new) result (output_of W.contents output.old output.new) turns }
     // the vault is broken only where the store failed, and there always, unless a list is followed
     ensures breaks { BreaksBy (Task.Serve port connections lists.now) result (is_broken vault.new) }
-    // a disk that is honest after the call was so before it
-    ensures disk_honest { T.is_honest (tables_of vault.new) → T.is_honest (tables_of vault.old) }
+    ensures disk_honest { WasHonest T.Tables vault.old vault.new }
 {
     match begin(rt.alloc(), vault, lists) {
         Ok(Ok(())) => serve_following(

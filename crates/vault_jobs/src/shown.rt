@@ -1,12 +1,12 @@
 //! What is said of a vault: its merchants and rights, or what would change by a list of either.
 ghost use Rattle.std.specs.Prelude.{◌≡◌, IfErr, IfOk, false};
 ghost use Rattle.vault_core.specs.Vault.{Vault as Content};
-ghost use Rattle.vault_store.specs.Applied.{is_broken, tables_of};
-ghost use Rattle.vault_engine.specs.Passing.{IsBefore, Keeps, Passage};
-ghost use Rattle.vault_listen.specs.Peers.{vault_passing};
+ghost use Rattle.vault_store.specs.Applied.{is_broken};
+ghost use Rattle.vault_engine.specs.Passing.{IsBefore, Keeps, Passage, passage};
 ghost use Rattle.vault_changes.specs.Failing.{BreaksByStore};
 ghost use Rattle.vault_changes.specs.Settling.{FailsToRead};
 ghost use Rattle.vault_jobs.specs.Listing.{shown_text};
+ghost use Rattle.vault_store.specs.LookUps.{WasHonest};
 
 use crate::show::{Form, Shown, changes_text, list_text};
 use std::alloc::Global;
@@ -22,20 +22,14 @@ use vault_store::vault::{Fault, Vault};
 ///
 /// 20 Memory: memory was refused. 21 Store: the store failed.
 fn listing_of<T: Tables>(alloc: Global, vault: &mut Vault<T>, form: Form) -> Result<Vec<u8>, Fault>
-    // the vault isn't broken
-    requires { is_broken vault.old ≡ false }
+    requires unbroken { is_broken vault.old ≡ false }
     // with Ok, on an honest disk, this is the text of each vault that was held, and that one is kept
-    ensures text { let w : Passage = vault_passing T.is_honest T.holds T.leaves vault.old vault.new in
+    ensures text { let w : Passage = passage T.Tables vault.old vault.new in
         IfOk result (λ text. (V : Content) → IsBefore w V
         → (text.items ≡ shown_text (Shown.Listing form) V) × Keeps w V) }
-    // on an honest disk, Memory keeps a vault that was held, and Store breaks it, but a crash leaves it;
-    // Reopen never comes
-    ensures failed { let w : Passage = vault_passing T.is_honest T.holds T.leaves vault.old vault.new in
-        IfErr result (FailsToRead w (is_broken vault.new)) }
-    // the vault is broken after Store only
+    ensures failed { IfErr result (FailsToRead (passage T.Tables vault.old vault.new)) }
     ensures broken { BreaksByStore vault.new result }
-    // a disk that is honest after the call was so before it
-    ensures disk_honest { T.is_honest (tables_of vault.new) → T.is_honest (tables_of vault.old) }
+    ensures disk_honest { WasHonest T.Tables vault.old vault.new }
 {
     let merchants = vault.merchants()?;
     let rights = vault.rights()?;
@@ -55,20 +49,14 @@ fn difference_of<T: Tables>(
     rows: &Vec<ListedRight>,
     now: Moment,
 ) -> Result<Vec<u8>, Fault>
-    // the vault isn't broken
-    requires { is_broken vault.old ≡ false }
+    requires unbroken { is_broken vault.old ≡ false }
     // with Ok, on an honest disk, this is the text of each vault that was held, and that one is kept
-    ensures text { let w : Passage = vault_passing T.is_honest T.holds T.leaves vault.old vault.new in
+    ensures text { let w : Passage = passage T.Tables vault.old vault.new in
         IfOk result (λ text. (V : Content) → IsBefore w V
         → (text.items ≡ shown_text (Shown.Changes exact rows.now now) V) × Keeps w V) }
-    // on an honest disk, Memory keeps a vault that was held, and Store breaks it, but a crash leaves it;
-    // Reopen never comes
-    ensures failed { let w : Passage = vault_passing T.is_honest T.holds T.leaves vault.old vault.new in
-        IfErr result (FailsToRead w (is_broken vault.new)) }
-    // the vault is broken after Store only
+    ensures failed { IfErr result (FailsToRead (passage T.Tables vault.old vault.new)) }
     ensures broken { BreaksByStore vault.new result }
-    // a disk that is honest after the call was so before it
-    ensures disk_honest { T.is_honest (tables_of vault.new) → T.is_honest (tables_of vault.old) }
+    ensures disk_honest { WasHonest T.Tables vault.old vault.new }
 {
     let changes = changes_to(alloc, vault, exact, rows.as_slice(), now)?;
     match changes_text(alloc, changes.commands.as_slice()) {
@@ -86,20 +74,14 @@ fn lacking_of<T: Tables>(
     rows: &Vec<ListedMerchant>,
     now: Moment,
 ) -> Result<Vec<u8>, Fault>
-    // the vault isn't broken
-    requires { is_broken vault.old ≡ false }
+    requires unbroken { is_broken vault.old ≡ false }
     // with Ok, on an honest disk, this is the text of each vault that was held, and that one is kept
-    ensures text { let w : Passage = vault_passing T.is_honest T.holds T.leaves vault.old vault.new in
+    ensures text { let w : Passage = passage T.Tables vault.old vault.new in
         IfOk result (λ text. (V : Content) → IsBefore w V
         → (text.items ≡ shown_text (Shown.Settings rows.now now) V) × Keeps w V) }
-    // on an honest disk, Memory keeps a vault that was held, and Store breaks it, but a crash leaves it;
-    // Reopen never comes
-    ensures failed { let w : Passage = vault_passing T.is_honest T.holds T.leaves vault.old vault.new in
-        IfErr result (FailsToRead w (is_broken vault.new)) }
-    // the vault is broken after Store only
+    ensures failed { IfErr result (FailsToRead (passage T.Tables vault.old vault.new)) }
     ensures broken { BreaksByStore vault.new result }
-    // a disk that is honest after the call was so before it
-    ensures disk_honest { T.is_honest (tables_of vault.new) → T.is_honest (tables_of vault.old) }
+    ensures disk_honest { WasHonest T.Tables vault.old vault.new }
 {
     let commands = settings_to(alloc, vault, rows.as_slice(), now)?;
     match changes_text(alloc, commands.as_slice()) {
@@ -116,20 +98,14 @@ pub(crate) fn text_of<T: Tables>(
     vault: &mut Vault<T>,
     shown: &Shown,
 ) -> Result<Vec<u8>, Fault>
-    // the vault isn't broken
-    requires { is_broken vault.old ≡ false }
+    requires unbroken { is_broken vault.old ≡ false }
     // with Ok, on an honest disk, this is the text of each vault that was held, and that one is kept
-    ensures text { let w : Passage = vault_passing T.is_honest T.holds T.leaves vault.old vault.new in
+    ensures text { let w : Passage = passage T.Tables vault.old vault.new in
         IfOk result (λ text. (V : Content) → IsBefore w V
         → (text.items ≡ shown_text shown.now V) × Keeps w V) }
-    // on an honest disk, Memory keeps a vault that was held, and Store breaks it, but a crash leaves it;
-    // Reopen never comes
-    ensures failed { let w : Passage = vault_passing T.is_honest T.holds T.leaves vault.old vault.new in
-        IfErr result (FailsToRead w (is_broken vault.new)) }
-    // the vault is broken after Store only
+    ensures failed { IfErr result (FailsToRead (passage T.Tables vault.old vault.new)) }
     ensures broken { BreaksByStore vault.new result }
-    // a disk that is honest after the call was so before it
-    ensures disk_honest { T.is_honest (tables_of vault.new) → T.is_honest (tables_of vault.old) }
+    ensures disk_honest { WasHonest T.Tables vault.old vault.new }
 {
     match shown {
         Shown::Listing(form) => listing_of(alloc, vault, *form),

@@ -1,10 +1,10 @@
 //! The numbers of a merchant's dead tokens, purged one after the other.
 ghost use Rattle.std.specs.Prelude.{◌≡◌, Err, false};
-ghost use Rattle.vault_store.specs.Applied.{is_broken, tables_of};
-ghost use Rattle.vault_engine.specs.Passing.{Passage};
-ghost use Rattle.vault_listen.specs.Peers.{vault_passing};
+ghost use Rattle.vault_store.specs.Applied.{is_broken};
+ghost use Rattle.vault_engine.specs.Passing.{passage};
 ghost use Rattle.vault_changes.specs.Failing.{BreaksByStore};
 ghost use Rattle.vault_jobs.specs.Sweeps.{Sweeps};
+ghost use Rattle.vault_store.specs.LookUps.{WasHonest};
 
 use vault_batch::asker::Asker;
 use vault_changes::carry::carry_all;
@@ -29,16 +29,12 @@ pub fn sweep<T: Tables>(
     asker: &Asker,
     now: Moment,
 ) -> Result<Result<u64, u8>, Fault>
-    // the vault isn't broken
-    requires { is_broken vault.old ≡ false }
+    requires unbroken { is_broken vault.old ≡ false }
     // on an honest disk, the numbers of all dead tokens are purged and counted, or those before a purge that
     // was refused or failed
-    ensures swept { let w : Passage = vault_passing T.is_honest T.holds T.leaves vault.old vault.new in
-        Sweeps asker.now now w (is_broken vault.new) result }
-    // the vault is broken after Store only
+    ensures swept { Sweeps asker.now now (passage T.Tables vault.old vault.new) result }
     ensures broken { BreaksByStore vault.new result }
-    // a disk that is honest after the call was so before it
-    ensures disk_honest { T.is_honest (tables_of vault.new) → T.is_honest (tables_of vault.old) }
+    ensures disk_honest { WasHonest T.Tables vault.old vault.new }
 {
     let purges = Purges {
         caller: asker.caller,

@@ -1,13 +1,13 @@
 //! The task of a sweep.
 ghost use Rattle.std.specs.Prelude.{◌≡◌, false};
-ghost use Rattle.vault_store.specs.Applied.{is_broken, tables_of};
-ghost use Rattle.vault_engine.specs.Passing.{Passage};
-ghost use Rattle.vault_listen.specs.Peers.{vault_passing};
-ghost use Rattle.vault_wire.specs.Watching.{inner_of, is_stopped};
+ghost use Rattle.vault_store.specs.Applied.{is_broken};
+ghost use Rattle.vault_engine.specs.Passing.{passage};
 ghost use Rattle.vault_jobs.specs.Doing.{SweepEnds, TimedSweepEnds};
 ghost use Rattle.vault_jobs.specs.Notes.{IsNoted, is_too_early as is_too_early_for, moment_note};
+ghost use Rattle.vault_jobs.specs.Streams.{output_of};
 ghost use Rattle.vault_jobs.specs.Tasks.{BreaksTask};
 ghost use Rattle.vault_jobs.specs.declared.task.Task.TheVariants.{Sweep};
+ghost use Rattle.vault_store.specs.LookUps.{WasHonest};
 
 use crate::answer::answer;
 use crate::clock::Giver;
@@ -32,17 +32,13 @@ fn do_purges<W: Write, T: Tables>(
     now: Moment,
     output: &mut Watched<W>,
 ) -> Result<Outcome, Stop>
-    // the vault isn't broken
-    requires { is_broken vault.old ≡ false }
+    requires unbroken { is_broken vault.old ≡ false }
     // with Done the line went out; with Done or Write, on an honest disk, all dead tokens' numbers are
     // purged; else nothing went out
-    ensures swept { let w : Passage = vault_passing T.is_honest T.holds T.leaves vault.old vault.new in
-        SweepEnds asker now w (is_broken vault.new) result (output.new ≡ output.old)
-        (W.contents (inner_of output.old)) (W.contents (inner_of output.new)) (is_stopped output.new) }
-    // the vault is broken only where the store failed
+    ensures swept { SweepEnds asker now (passage T.Tables vault.old vault.new) result
+        (output_of W.contents output.old output.new) }
     ensures breaks { BreaksTask vault.new result }
-    // a disk that is honest after the call was so before it
-    ensures disk_honest { T.is_honest (tables_of vault.new) → T.is_honest (tables_of vault.old) }
+    ensures disk_honest { WasHonest T.Tables vault.old vault.new }
 {
     match sweep(vault, &asker, now) {
         Ok(Ok(count)) => {
@@ -98,20 +94,15 @@ pub(crate) fn do_sweep<W: Write, T: Tables>(
     giver: Giver,
     output: &mut Watched<W>,
 ) -> Noted
-    // the vault isn't broken
-    requires { is_broken vault.old ≡ false }
+    requires unbroken { is_broken vault.old ≡ false }
     // at the words' moment it sweeps; at the clock's, on an honest disk, only where the merchant's isn't far
     // ahead
-    ensures swept { let w : Passage = vault_passing T.is_honest T.holds T.leaves vault.old vault.new in
-        TimedSweepEnds giver asker now w (is_broken vault.new) result.0 (output.new ≡ output.old)
-        (W.contents (inner_of output.old)) (W.contents (inner_of output.new)) (is_stopped output.new) }
+    ensures swept { TimedSweepEnds giver asker now (passage T.Tables vault.old vault.new) result.0
+        (output_of W.contents output.old output.new) }
     // beside a sweep stands, on an honest disk, exactly what the merchant's moment says
-    ensures noted { let w : Passage = vault_passing T.is_honest T.holds T.leaves vault.old vault.new in
-        IsNoted (Sweep asker now giver) w result.0 result.1 }
-    // the vault is broken only where the store failed
+    ensures noted { IsNoted (Sweep asker now giver) (passage T.Tables vault.old vault.new) result.0 result.1 }
     ensures breaks { BreaksTask vault.new result.0 }
-    // a disk that is honest after the call was so before it
-    ensures disk_honest { T.is_honest (tables_of vault.new) → T.is_honest (tables_of vault.old) }
+    ensures disk_honest { WasHonest T.Tables vault.old vault.new }
 {
     match moment_of(vault, asker.merchant) {
         Ok(moment) if is_too_early(giver, now, moment) => {

@@ -1,20 +1,21 @@
 //! What is done with a vault.
-ghost use Rattle.std.specs.Prelude.{◌≡◌, ◌++◌, All, IfErr, List, false, length, true};
-ghost use Rattle.vault_store.specs.Applied.{is_broken, tables_of};
-ghost use Rattle.vault_engine.specs.Passing.{Passage};
-ghost use Rattle.vault_listen.specs.Peers.{Event, vault_passing};
-ghost use Rattle.vault_live.specs.Turns.{Turn, events_in};
-ghost use Rattle.vault_wire.specs.Watching.{inner_of, is_stopped};
+ghost use Rattle.std.specs.Prelude.{◌≡◌, All, IfErr, List, false, length};
+ghost use Rattle.vault_store.specs.Applied.{is_broken};
+ghost use Rattle.vault_engine.specs.Passing.{passage};
+ghost use Rattle.vault_live.specs.Turns.{TellsTurns, Turn};
 ghost use Rattle.vault_jobs.specs.Causes.{IsCauseOf};
 ghost use Rattle.vault_jobs.specs.Outside.{outside};
-ghost use Rattle.vault_jobs.specs.Streams.{Streams, streams, with_turns};
+ghost use Rattle.vault_jobs.specs.Streams.{Seen, output_of, seen_over, streams};
 ghost use Rattle.vault_jobs.specs.Doing.{BatchEnds, CommandsEnd, Does, PipeEnds};
 ghost use Rattle.vault_jobs.specs.Doing.{SetEnds, SettleEnds, ShowEnds};
 ghost use Rattle.vault_jobs.specs.Listing.{shown_text};
 ghost use Rattle.vault_changes.specs.Grants.{CarriesAll, grants_at};
 ghost use Rattle.vault_changes.specs.Settings.{HasLives};
+ghost use Rattle.vault_jobs.specs.Streams.{seen_with};
 ghost use Rattle.vault_jobs.specs.Tasks.{BreaksBy, BreaksTask, IsProper, granted_line};
 ghost use Rattle.vault_jobs.specs.declared.task.Task.{Task};
+ghost use Rattle.vault_listen.specs.Live.{AreGiven};
+ghost use Rattle.vault_store.specs.LookUps.{WasHonest};
 
 use crate::answer::{answer, answer_text};
 use crate::batch::batch_input;
@@ -96,18 +97,13 @@ fn do_give<W: Write, T: Tables>(
     now: Moment,
     output: &mut Watched<W>,
 ) -> Result<Outcome, Stop>
-    // the vault isn't broken
-    requires { is_broken vault.old ≡ false }
+    requires unbroken { is_broken vault.old ≡ false }
     // with Done the line went out; with Done or Write, on an honest disk, all rights are given; else nothing
     // went out
-    ensures does { let w : Passage = vault_passing T.is_honest T.holds T.leaves vault.old vault.new in
-        CommandsEnd (CarriesAll (grants_at now rights.now) w (is_broken vault.new))
-        (granted_line (length rights.now)) result (output.new ≡ output.old)
-        (W.contents (inner_of output.old)) (W.contents (inner_of output.new)) (is_stopped output.new) }
-    // the vault is broken only where the store failed
+    ensures does { CommandsEnd (CarriesAll (grants_at now rights.now) (passage T.Tables vault.old vault.new))
+        (granted_line (length rights.now)) result (output_of W.contents output.old output.new) }
     ensures breaks { BreaksTask vault.new result }
-    // a disk that is honest after the call was so before it
-    ensures disk_honest { T.is_honest (tables_of vault.new) → T.is_honest (tables_of vault.old) }
+    ensures disk_honest { WasHonest T.Tables vault.old vault.new }
 {
     match give_all(vault, rights, now) {
         Ok(Ok(())) => {
@@ -130,17 +126,13 @@ fn do_settle<W: Write, T: Tables>(
     now: Moment,
     output: &mut Watched<W>,
 ) -> Result<Outcome, Stop>
-    // the vault isn't broken
-    requires { is_broken vault.old ≡ false }
+    requires unbroken { is_broken vault.old ≡ false }
     // with Done the line went out; with Done or Write, on an honest disk, all changes are done; else nothing
     // went out
-    ensures does { let w : Passage = vault_passing T.is_honest T.holds T.leaves vault.old vault.new in
-        SettleEnds now rows.now w (is_broken vault.new) result (output.new ≡ output.old)
-        (W.contents (inner_of output.old)) (W.contents (inner_of output.new)) (is_stopped output.new) }
-    // the vault is broken only where the store failed
+    ensures does { SettleEnds now rows.now (passage T.Tables vault.old vault.new) result
+        (output_of W.contents output.old output.new) }
     ensures breaks { BreaksTask vault.new result }
-    // a disk that is honest after the call was so before it
-    ensures disk_honest { T.is_honest (tables_of vault.new) → T.is_honest (tables_of vault.old) }
+    ensures disk_honest { WasHonest T.Tables vault.old vault.new }
 {
     match settle(alloc, vault, rows, now) {
         Ok((Ok(()), changes)) => {
@@ -174,13 +166,10 @@ fn do_set_merchants<W: Write, T: Tables>(
     requires lives { All HasLives rows.now }
     requires unbroken { is_broken vault.old ≡ false }
     // with Done the line went out; with Done or Write, on an honest disk, all are set; else nothing went out
-    ensures does { let w : Passage = vault_passing T.is_honest T.holds T.leaves vault.old vault.new in
-        SetEnds now rows.now w (is_broken vault.new) result (output.new ≡ output.old)
-        (W.contents (inner_of output.old)) (W.contents (inner_of output.new)) (is_stopped output.new) }
-    // the vault is broken only where the store failed
+    ensures does { SetEnds now rows.now (passage T.Tables vault.old vault.new) result
+        (output_of W.contents output.old output.new) }
     ensures breaks { BreaksTask vault.new result }
-    // a disk that is honest after the call was so before it
-    ensures disk_honest { T.is_honest (tables_of vault.new) → T.is_honest (tables_of vault.old) }
+    ensures disk_honest { WasHonest T.Tables vault.old vault.new }
 {
     match set_merchants(alloc, vault, rows, now) {
         Ok((Ok(()), commands)) => {
@@ -205,17 +194,13 @@ fn do_show<W: Write, T: Tables>(
     shown: &Shown,
     output: &mut Watched<W>,
 ) -> Result<Outcome, Stop>
-    // the vault isn't broken
-    requires { is_broken vault.old ≡ false }
+    requires unbroken { is_broken vault.old ≡ false }
     // on an honest disk, the vault's text went out with Done, a beginning with Write, else nothing; a crash
     // leaves the vault as before
-    ensures does { let w : Passage = vault_passing T.is_honest T.holds T.leaves vault.old vault.new in
-        ShowEnds (shown_text shown.now) w (is_broken vault.new) result (output.new ≡ output.old)
-        (W.contents (inner_of output.old)) (W.contents (inner_of output.new)) (is_stopped output.new) }
-    // the vault is broken only where the store failed
+    ensures does { ShowEnds (shown_text shown.now) (passage T.Tables vault.old vault.new) result
+        (output_of W.contents output.old output.new) }
     ensures breaks { BreaksTask vault.new result }
-    // a disk that is honest after the call was so before it
-    ensures disk_honest { T.is_honest (tables_of vault.new) → T.is_honest (tables_of vault.old) }
+    ensures disk_honest { WasHonest T.Tables vault.old vault.new }
 {
     match text_of(alloc, vault, shown) {
         Ok(text) => match answer_text(output, text.as_slice()) {
@@ -237,23 +222,19 @@ fn do_batch<K: Timekeeper, R: Read, W: Write, T: Tables>(
     input: &mut Watched<R>,
     output: &mut Watched<W>,
 ) -> Result<Outcome, Stop>
-    // the vault isn't broken
-    requires { is_broken vault.old ≡ false }
+    requires unbroken { is_broken vault.old ≡ false }
     // the rows up to its end or stop are answered, each with the moment and digits that are fixed, else told
     // and drawn
-    ensures does { let w : Passage = vault_passing T.is_honest T.holds T.leaves vault.old vault.new in
-        let s : Streams = streams R.remaining input.old input.new W.contents output.old output.new in
-        BatchEnds (K.tells time.now) asker moment digits w result (input.new ≡ input.old)
-        (output.new ≡ output.old) s }
+    ensures does { BatchEnds (AreGiven (K.tells time.now) moment digits) asker
+        (passage T.Tables vault.old vault.new) result (seen_over R.remaining input.old input.new W.contents
+        output.old output.new) }
     // the reader or the writer stops it only where that failed, and the bytes of a batch only where they are
     // none
-    ensures caused { let s : Streams =
-        streams R.remaining input.old input.new W.contents output.old output.new in
-        IfErr result (λ stop. IsCauseOf stop s) }
+    ensures caused { IfErr result (λ stop. IsCauseOf stop (streams R.remaining input.old input.new W.contents
+        output.old output.new)) }
     // the vault is broken exactly where the store failed
     ensures breaks { BreaksBy (Task.Batch asker moment digits) result (is_broken vault.new) }
-    // a disk that is honest after the call was so before it
-    ensures disk_honest { T.is_honest (tables_of vault.new) → T.is_honest (tables_of vault.old) }
+    ensures disk_honest { WasHonest T.Tables vault.old vault.new }
 {
     let Some(mut pairs) = pairs(rt, time, MOST_ROWS, moment, digits) else {
         return Err(Stop::Batch(BatchFault::Source));
@@ -275,23 +256,18 @@ fn do_pipe<K: Timekeeper, R: Read, W: Write, T: Tables>(
     input: &mut Watched<R>,
     output: &mut Watched<W>,
 ) -> Result<Outcome, Stop>
-    // the vault isn't broken
-    requires { is_broken vault.old ≡ false }
+    requires unbroken { is_broken vault.old ≡ false }
     // the messages up to its end or stop are answered, each with the moment and digits that are fixed, else
     // told and drawn
-    ensures does { let w : Passage = vault_passing T.is_honest T.holds T.leaves vault.old vault.new in
-        let s : Streams = streams R.remaining input.old input.new W.contents output.old output.new in
-        PipeEnds (K.tells time.now) moment digits w result (input.new ≡ input.old)
-        (output.new ≡ output.old) s }
+    ensures does { PipeEnds (AreGiven (K.tells time.now) moment digits) (passage T.Tables vault.old vault.new)
+        result (seen_over R.remaining input.old input.new W.contents output.old output.new) }
     // the reader or the writer stops it only where that failed, and the bytes of a batch only where they are
     // none
-    ensures caused { let s : Streams =
-        streams R.remaining input.old input.new W.contents output.old output.new in
-        IfErr result (λ stop. IsCauseOf stop s) }
+    ensures caused { IfErr result (λ stop. IsCauseOf stop (streams R.remaining input.old input.new W.contents
+        output.old output.new)) }
     // the vault is broken exactly where the store failed
     ensures breaks { BreaksBy (Task.Pipe moment digits) result (is_broken vault.new) }
-    // a disk that is honest after the call was so before it
-    ensures disk_honest { T.is_honest (tables_of vault.new) → T.is_honest (tables_of vault.old) }
+    ensures disk_honest { WasHonest T.Tables vault.old vault.new }
 {
     let Some(mut pairs) = pairs(rt, time, MOST_MESSAGES, moment, digits) else {
         return Err(Stop::Service(ServeFault::Source));
@@ -318,14 +294,11 @@ pub fn do_task<K: Timekeeper, N: Network, D: Desk, R: Read, W: Write, T: Tables>
     requires unbroken { is_broken vault.old ≡ false }
     // by how it ends: what it did to the vault, what it read and sent, what is noted, and which turns the
     // network tells of
-    ensures does { let w : Passage = vault_passing T.is_honest T.holds T.leaves vault.old vault.new in
-        let s : Streams = streams R.remaining input.old input.new W.contents output.old output.new in
-        (turns : List Turn)
-        × ((log : List Event) → N.tells network.old log → N.tells network.new (log ++ events_in turns))
-        × Does (outside (K.tells time.now) (D.says desk.now)) task.now w (is_broken vault.new)
-        result.0 result.1 (input.new ≡ input.old) (output.new ≡ output.old) (with_turns s turns) }
-    // a disk that is honest after the call was so before it
-    ensures disk_honest { T.is_honest (tables_of vault.new) → T.is_honest (tables_of vault.old) }
+    ensures does { let v : Seen = seen_over R.remaining input.old input.new W.contents output.old output.new
+        in (turns : List Turn) × TellsTurns (N.tells network.old) (N.tells network.new) turns
+        × Does (outside (K.tells time.now) (D.says desk.now)) task.now (passage T.Tables vault.old vault.new)
+        result.0 result.1 (seen_with v turns) }
+    ensures disk_honest { WasHonest T.Tables vault.old vault.new }
 {
     match *task {
         Task::Change(ref command) => do_change(vault, command, output),

@@ -9,6 +9,7 @@ ghost use Rattle.vault_wire.specs.Watching.{inner_of, is_stopped};
 ghost use Rattle.vault_jobs.specs.Failing.{GoesOn};
 ghost use Rattle.vault_jobs.specs.Causes.{IsCause};
 ghost use Rattle.vault_jobs.specs.Trial.{IsCut, IsTrial, left_by, trial_vault as trial_vault_lem};
+ghost use Rattle.vault_listen.specs.Live.{AreGiven};
 
 use crate::pipe::pipe;
 use crate::source::{MOST_MESSAGES, pairs};
@@ -85,8 +86,7 @@ pub fn trial_vault(alloc: Global, trial: &Trial) -> Result<Vault<MemTables>, All
 
 /// Gives the caller of the trial a right at its merchant, for good.
 fn give(vault: &mut Vault<MemTables>, trial: &Trial, right: Right) -> Result<(), AllocError>
-    // the vault isn't broken
-    requires { is_broken vault.old ≡ false }
+    requires unbroken { is_broken vault.old ≡ false }
     // with Ok, a vault that was held is held as the grant leaves it
     ensures given { OnOk result ((V : Content) → Contains IsHeld vault.old V
         → Contains IsHeld vault.new
@@ -121,20 +121,18 @@ pub fn serve_trial<H: AllocGlobal + RandomSource, K: Timekeeper, R: Read, W: Wri
     requires { IsLife trial.now.life }
     // with Ok, the messages read up to the first that closes are answered by the trial's vault, and then a
     // fault
-    ensures served { OnOk result (IsTrial (K.tells time.now)
-        (R.remaining (inner_of input.old)) (R.remaining (inner_of input.new))
-        (W.contents (inner_of output.old)) (W.contents (inner_of output.new))
+    ensures served { OnOk result (IsTrial (AreGiven (K.tells time.now) trial.now.moment trial.now.digits)
         (trial_vault_lem trial.now.caller trial.now.merchant trial.now.life trial.now.made)
-        trial.now.moment trial.now.digits) }
+        (R.remaining (inner_of input.old)) (R.remaining (inner_of input.new))
+        (W.contents (inner_of output.old)) (W.contents (inner_of output.new))) }
     // with Ok, the writer hasn't failed
     ensures writer_ok { GoesOn result output.new }
     // with Err, what was read begins with messages, and a beginning of the texts that answer some of them
     // went out
-    ensures cut { OnErr result (IsCut (K.tells time.now)
-        (R.remaining (inner_of input.old)) (R.remaining (inner_of input.new))
-        (W.contents (inner_of output.old)) (W.contents (inner_of output.new))
+    ensures cut { OnErr result (IsCut (AreGiven (K.tells time.now) trial.now.moment trial.now.digits)
         (trial_vault_lem trial.now.caller trial.now.merchant trial.now.life trial.now.made)
-        trial.now.moment trial.now.digits) }
+        (R.remaining (inner_of input.old)) (R.remaining (inner_of input.new))
+        (W.contents (inner_of output.old)) (W.contents (inner_of output.new))) }
     // Read comes only where the reader failed, and Write only where the writer did
     ensures stopped { IfErr result (λ e. IsCause e (is_stopped input.new) (is_stopped output.new)) }
     // it is never stopped by Store

@@ -1,6 +1,6 @@
 -- What is said of a connection over tables, said of the vaults that they hold.
 use Rattle.std.proofs.Common.{◌≡◌, ◌≢◌, ◌<◌, ℕ, List, [], ◌++◌, ◌∷◌, ap, inl, inr, length, refl, subst}
-use Rattle.std.proofs.Common.{sym, take}
+use Rattle.std.proofs.Common.{false, sym, take}
 use Rattle.std.specs.Prelude.{MatchResult, None, Option, Result, Ok, Err}
 use Rattle.vault_core.specs.Vault.{Vault as Content}
 use Rattle.vault_wire.specs.Parts.{Parts}
@@ -22,6 +22,7 @@ from w V W U = record w {
   held_old = λ A. A ≡ V;
   held_new = λ A. A ≡ W;
   left_new = λ A B. (A ≡ W) × (B ≡ U);
+  broken = false;
 }
 
 -- what is true of the vault that is held before is true of each that is

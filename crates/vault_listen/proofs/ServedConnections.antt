@@ -2,10 +2,10 @@
 use Rattle.std.proofs.Common.{◌≡◌, ◌+◌, ◌≤◌, List, [], ◌∷◌, ◌++◌, Option, Some, None, refl, sym, subst}
 use Rattle.std.proofs.Common.{Result, length, ap, append-nil, append_assoc, arith}
 use Rattle.std.specs.Prelude.{Bool, false, MatchResult}
-use Rattle.vault_core.specs.Vault.{Vault as Content}
 use Rattle.vault_store.specs.Applied.{is_broken, tables_of}
 use Rattle.vault_store.specs.declared.vault.Vault.{Vault}
 use Rattle.vault_engine.specs.Asking.{Pair}
+use Rattle.vault_engine.specs.Passing.{passage}
 use Rattle.vault_http.specs.Faults.{Tells, failures}
 use Rattle.vault_http.specs.Served.{IsServed, IsStopped}
 use Rattle.vault_engine.specs.declared.stop.Stop.{Stop as ServeFault}
@@ -15,6 +15,7 @@ use Rattle.vault_listen.specs.Live.{AreGiven, Turns}
 use Rattle.vault_listen.specs.Peers.{AreLinks, Event, IsClosedBy, IsLink, Known, Link}
 use Rattle.vault_listen.specs.Peers.{came_in, closing, coming, events_of, link_passing}
 use Rattle.vault_listen.specs.Peers.Event.{Lost, Came, Closed}
+use Rattle.vault_store.specs.declared.tables.Tables.{Ghosts}
 
 pub events_of-append : (xs ys : List (Option Link)) → events_of (xs ++ ys) ≡ events_of xs ++ events_of ys
 events_of-append [] ys = refl
@@ -76,13 +77,12 @@ told_then old middle new xs x f g log h =
     subst (λ es. new (log ++ es)) (sym (events_of-append xs (x ∷ [])))
     (subst new (append_assoc log (events_of xs) (events_of (x ∷ []))) (g (log ++ events_of xs) (f log h)))
 
-module _ {T : Type 0} (tells : Turns) (honest : T → Type 0) (holds : T → Content → Type 0)
-    (leaves : T → Content → Content → Type 0) where
+module _ {T : Type 0} (tells : Turns) (g : Ghosts T) where
   -- connections, and then more of them
   pub links_then : (xs ys : List (Option Link)) (v0 v1 v2 : Vault T)
-      → AreLinks tells honest holds leaves xs v0 v1 → AreLinks tells honest holds leaves ys v1 v2
-      → AreLinks tells honest holds leaves (xs ++ ys) v0 v2
-  links_then [] ys v0 v1 v2 same more = subst (λ v. AreLinks tells honest holds leaves ys v v2) same more
+      → AreLinks tells g xs v0 v1 → AreLinks tells g ys v1 v2
+      → AreLinks tells g (xs ++ ys) v0 v2
+  links_then [] ys v0 v1 v2 same more = subst (λ v. AreLinks tells g ys v v2) same more
   links_then (None ∷ xs) ys v0 v1 v2 links more = links_then xs ys v0 v1 v2 links more
   links_then (Some x ∷ xs) ys v0 v1 v2 (middle, one, links) more =
       (middle, one, links_then xs ys middle v1 v2 links more)
@@ -90,11 +90,11 @@ module _ {T : Type 0} (tells : Turns) (honest : T → Type 0) (holds : T → Con
   -- a connection, from a reader and a writer that had not failed
   pub link_of : (x : Link) (v v' : Vault T) (r w refused : Bool) (pairs : List Pair) → length pairs ≤ 1000
       → AreGiven tells None None pairs
-      → MatchResult x.ended (IsServed x.came x.left (link_passing honest holds leaves v v' pairs x))
-      (IsStopped x.came x.left (link_passing honest holds leaves v v' pairs x))
+      → MatchResult x.ended (IsServed x.came x.left (link_passing (passage g v v') pairs x))
+      (IsStopped x.came x.left (link_passing (passage g v v') pairs x))
       → r ≡ false → w ≡ false
       → Tells x.ended (failures false r w (is_broken v)) (failures refused x.reader x.writer (is_broken v'))
-      → (honest (tables_of v') → honest (tables_of v)) → IsLink tells honest holds leaves x v v'
+      → (g.is_honest (tables_of v') → g.is_honest (tables_of v)) → IsLink tells g x v v'
   link_of x v v' r w refused pairs few own answered calm_r calm_w told back = record {
     pairs = pairs;
     few = few;

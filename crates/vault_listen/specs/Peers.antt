@@ -1,17 +1,18 @@
 -- What is told of the peers of a service.
 use Rattle.std.specs.Prelude.{◌≡◌, ◌≤◌, ℕ, ◌+◌, List, [], ◌∷◌, ◌++◌, Bool, false, Option}
 use Rattle.std.specs.Prelude.{Some, None, Result, length, MatchResult}
-use Rattle.vault_core.specs.Vault.{Vault as Content}
-use Rattle.vault_store.specs.Applied.{Contains, is_broken, tables_of}
+use Rattle.vault_store.specs.Applied.{is_broken}
 use Rattle.vault_store.specs.declared.vault.Vault.{Vault}
 use Rattle.vault_engine.specs.Asking.{Pair}
 use Rattle.vault_http.specs.Faults.{Tells, failures}
-use Rattle.vault_engine.specs.Passing.{Passage}
+use Rattle.vault_engine.specs.Passing.{Passage, passage}
 use Rattle.vault_http.specs.Served.{IsServed, IsStopped}
 use Rattle.vault_engine.specs.declared.stop.Stop.{Stop as ServeFault}
 use Rattle.vault_http.specs.declared.served.Served.{Served}
 use Rattle.vault_listen.specs.Live.{AreGiven, Turns}
 use Rattle.vault_listen.specs.declared.peers.Accepted.{Accepted}
+use Rattle.vault_store.specs.LookUps.{WasHonest}
+use Rattle.vault_store.specs.declared.tables.Tables.{Ghosts}
 
 -- bytes as a reader has them left, or as a writer has taken them
 abbrev pub Known : Type 0
@@ -65,49 +66,29 @@ events_of [] = []
 events_of (None ∷ xs) = Lost ∷ events_of xs
 events_of (Some x ∷ xs) = Came x.came x.had ∷ closing x ∷ events_of xs
 
--- the passage of a vault alone, where no pair and no byte is seen
-abbrev pub vault_passing : {T : Type 0} → (T → Type 0) → (T → Content → Type 0)
-    → (T → Content → Content → Type 0) → Vault T → Vault T → Passage
-vault_passing honest holds leaves v v' = record {
-  given_old = [];
-  given_new = [];
-  sent_old = None;
-  sent_new = None;
-  honest = honest (tables_of v');
-  held_old = Contains holds v;
-  held_new = Contains holds v';
-  left_new = leaves (tables_of v');
-}
-
--- the passage of a vault in which a source gave these pairs, and the writer of a connection took its bytes
-abbrev pub link_passing : {T : Type 0} → (T → Type 0) → (T → Content → Type 0)
-    → (T → Content → Content → Type 0) → Vault T → Vault T → List Pair → Link → Passage
-link_passing honest holds leaves v v' pairs x = record (vault_passing honest holds leaves v v') {
-  given_new = pairs;
-  sent_old = x.had;
-  sent_new = x.sent;
-}
+-- a passage of a vault in which a source gave these pairs, and the writer of a connection took its bytes
+abbrev pub link_passing : Passage → List Pair → Link → Passage
+link_passing w pairs x = record w { given_new = pairs; sent_old = x.had; sent_new = x.sent }
 
 -- One connection was served by a vault, or the service of it stopped: what was read are its own bytes, what
 -- went out are its own answers, and its pairs are a moment, told for it alone, and a drawing each, at most
--- 1000. A fault comes exactly where its own one fails.
-pub record IsLink {T : Type 0} (tells : Turns) (honest : T → Type 0) (holds : T → Content → Type 0)
-    (leaves : T → Content → Content → Type 0) (x : Link) (v v' : Vault T) : Type 0 where
+-- 1000. A fault but Memory tells which of source,
+-- reader, writer and vault has failed.
+pub record IsLink {T : Type 0} (tells : Turns) (g : Ghosts T) (x : Link) (v v' : Vault T) : Type 0 where
   pub pairs : List Pair
   pub few : length pairs ≤ 1000
   pub own : AreGiven tells None None pairs
   pub answered : MatchResult x.ended
-      (IsServed x.came x.left (link_passing honest holds leaves v v' pairs x))
-      (IsStopped x.came x.left (link_passing honest holds leaves v v' pairs x))
+      (IsServed x.came x.left (link_passing (passage g v v') pairs x))
+      (IsStopped x.came x.left (link_passing (passage g v v') pairs x))
   pub refused : Bool
   pub told : Tells x.ended (failures false false false (is_broken v))
       (failures refused x.reader x.writer (is_broken v'))
-  pub back : honest (tables_of v') → honest (tables_of v)
+  pub back : WasHonest g v v'
 
 -- connections were served one after the other, each by the vault that those before it leave
-abbrev pub AreLinks : {T : Type 0} → Turns → (T → Type 0) → (T → Content → Type 0)
-    → (T → Content → Content → Type 0) → List (Option Link) → Vault T → Vault T → Type 0
-AreLinks tells honest holds leaves [] v v' = v' ≡ v
-AreLinks tells honest holds leaves (None ∷ xs) v v' = AreLinks tells honest holds leaves xs v v'
-AreLinks {T} tells honest holds leaves (Some x ∷ xs) v v' = (middle : Vault T)
-    × IsLink tells honest holds leaves x v middle × AreLinks tells honest holds leaves xs middle v'
+abbrev pub AreLinks : {T : Type 0} → Turns → Ghosts T → List (Option Link) → Vault T → Vault T → Type 0
+AreLinks tells g [] v v' = v' ≡ v
+AreLinks tells g (None ∷ xs) v v' = AreLinks tells g xs v v'
+AreLinks {T} tells g (Some x ∷ xs) v v' =
+    (middle : Vault T) × IsLink tells g x v middle × AreLinks tells g xs middle v'

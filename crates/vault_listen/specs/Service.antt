@@ -1,6 +1,6 @@
 -- What connections leave of a vault.
 use Rattle.std.specs.Prelude.{◌≡◌, ◌≢◌, ℕ, ◌<◌, ◌≤◌, List, [], ◌∷◌, ◌++◌, length, All, Option, Some, None}
-use Rattle.std.specs.Prelude.{MatchResult, Result, Ok, Err}
+use Rattle.std.specs.Prelude.{MatchResult, Result, Ok, Err, false}
 use Rattle.vault_core.specs.Vault.{Vault as Content}
 use Rattle.vault_engine.specs.Asking.{Pair}
 use Rattle.vault_engine.specs.Passing.{Passage, IsBefore, Keeps}
@@ -12,7 +12,7 @@ use Rattle.vault_listen.specs.declared.fault.ListenFault.{ListenFault}
 use Rattle.vault_listen.specs.declared.fault.ListenFault.TheVariants.{Source, Store, Memory, Accept}
 
 -- the passage of a connection in which a source gave these pairs, from the vault V to the vault W; a stop
--- within its last message leaves W or U
+-- within its last message leaves W or U. Whether the vault is broken isn't seen.
 abbrev pub link_from : Content → Content → Content → List Pair → Link → Passage
 link_from V W U pairs x = record {
   given_old = [];
@@ -23,6 +23,7 @@ link_from V W U pairs x = record {
   held_old = λ A. A ≡ V;
   held_new = λ A. A ≡ W;
   left_new = λ A B. (A ≡ W) × (B ≡ U);
+  broken = false;
 }
 
 -- One connection was served from the vault V, or the service of it stopped: what was read are its own bytes,

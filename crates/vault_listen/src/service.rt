@@ -2,16 +2,16 @@
 ghost use Rattle.std.specs.Prelude.{◌≡◌, ◌≢◌, ◌↔◌, ◌++◌, List, Option, false, true, Err, IsTrue};
 ghost use Rattle.std.specs.Prelude.{MatchResult, ◌≤◌, Bool, [], None, length};
 ghost use Rattle.vault_engine.specs.Stops.{NeverFails, Trusts};
-ghost use Rattle.vault_store.specs.Applied.{is_broken, tables_of};
-ghost use Rattle.vault_engine.specs.Passing.{Passage, passing};
+ghost use Rattle.vault_store.specs.Applied.{is_broken};
+ghost use Rattle.vault_engine.specs.Passing.{Passage, giving, passage, sending};
 ghost use Rattle.vault_listen.specs.Peers.{AreLinks, Event, IsClosedBy, IsLink, Link, events_of};
-ghost use Rattle.vault_listen.specs.Peers.{vault_passing};
 ghost use Rattle.vault_listen.specs.Service.{Leaves};
-ghost use Rattle.vault_wire.specs.Watching.{inner_of, is_stopped};
+ghost use Rattle.vault_wire.specs.Watching.{inner_of};
 ghost use Rattle.vault_engine.specs.Asking.{Pair};
-ghost use Rattle.vault_http.specs.Faults.{Tells, failures};
+ghost use Rattle.vault_http.specs.Faults.{Tells, failures_of};
 ghost use Rattle.vault_http.specs.Served.{IsServed, IsStopped};
 ghost use Rattle.vault_listen.specs.Live.{AreGiven};
+ghost use Rattle.vault_store.specs.LookUps.{WasHonest};
 
 use crate::fault::ListenFault;
 use crate::live::LiveSource;
@@ -56,17 +56,15 @@ fn serve_link<P: Peers, K: Timekeeper, G: Rng, T: Tables>(
 ) -> Result<(), ListenFault>
     // the connection is served by the vault, or stopped, and closed; it is an Err exactly where that ended by
     // Store
-    ensures served { (x : Link) × IsLink (K.tells time.now) T.is_honest T.holds T.leaves x vault.old vault.new
+    ensures served { (x : Link) × IsLink (K.tells time.now) T.Tables x vault.old vault.new
         × IsClosedBy P.Reader.remaining P.Writer.contents (P.tells peers.old) (P.tells peers.new) link x
         × MatchResult result (λ _. x.ended ≢ Err ServeFault.Store) (λ _. x.ended ≡ Err ServeFault.Store) }
     // with Ok, whether the vault is broken stays as it was; with Err, the fault is Store and the vault is
     // broken
     ensures store { MatchResult result (λ _. is_broken vault.new ≡ is_broken vault.old)
         (λ fault. (fault ≡ ListenFault.Store) × (is_broken vault.new ≡ true)) }
-    // tables that can't fail give an unbroken vault no Store fault
     ensures infallible { NeverFails T.may_fail vault.old (result ≡ Err ListenFault.Store) }
-    // a disk that is honest after the call was so before it
-    ensures disk_honest { T.is_honest (tables_of vault.new) → T.is_honest (tables_of vault.old) }
+    ensures disk_honest { WasHonest T.Tables vault.old vault.new }
 {
     let mut reader = Watched::new(link.reader);
     let mut writer = Watched::new(link.writer);
@@ -108,18 +106,16 @@ pub fn serve_on<P: Peers, K: Timekeeper, G: Rng, T: Tables>(
 ) -> Result<(), ListenFault>
     // the connections that the peers tell of are served one after the other, and leave of the vault what the
     // result says
-    ensures served { let w : Passage = vault_passing T.is_honest T.holds T.leaves vault.old vault.new in
-        (xs : List (Option Link)) × Leaves (K.tells time.now) connections xs w result
-        × AreLinks (K.tells time.now) T.is_honest T.holds T.leaves xs vault.old vault.new
+    ensures served { (xs : List (Option Link)) × Leaves (K.tells time.now) connections xs
+        (passage T.Tables vault.old vault.new) result
+        × AreLinks (K.tells time.now) T.Tables xs vault.old vault.new
         × ((log : List Event) → P.tells peers.old log → P.tells peers.new (log ++ events_of xs)) }
     // after Store the vault is broken
     ensures store { result ≡ Err ListenFault.Store → is_broken vault.new ≡ true }
     // after any other result, whether the vault is broken stays as it was
     ensures others { result ≢ Err ListenFault.Store → is_broken vault.new ≡ is_broken vault.old }
-    // tables that can't fail give an unbroken vault no Store fault
     ensures infallible { NeverFails T.may_fail vault.old (result ≡ Err ListenFault.Store) }
-    // a disk that is honest after the call was so before it
-    ensures disk_honest { T.is_honest (tables_of vault.new) → T.is_honest (tables_of vault.old) }
+    ensures disk_honest { WasHonest T.Tables vault.old vault.new }
 {
     for _ in 0..connections {
         if let Some(link) = peers.accept()? {
@@ -154,19 +150,15 @@ pub fn serve_connection<K: Timekeeper, G: Rng, R: Placed, W: Write, T: Tables>(
     // with at most 1000 pairs, each a moment told for it alone and a drawing, the messages are served, or the
     // service stopped
     ensures answered { (pairs : List Pair) × (length pairs ≤ 1000)
-        × AreGiven (K.tells time.now) None None pairs
-        × (let w : Passage = passing (λ ps. ps) [] pairs
-        W.contents writer.old writer.new T.is_honest T.holds T.leaves vault.old vault.new in
-        MatchResult result
+        × AreGiven (K.tells time.now) None None pairs × (let w : Passage = sending W.contents writer.old
+        writer.new (giving (λ ps. ps) [] pairs (passage T.Tables vault.old vault.new)) in MatchResult result
         (IsServed (R.remaining (inner_of reader.old)) (R.remaining (inner_of reader.new)) w)
         (IsStopped (R.remaining (inner_of reader.old)) (R.remaining (inner_of reader.new)) w)) }
-    // the stop's own one of source, reader, writer and vault has failed; whether the others have stays as it
-    // was
+    // a stop but Memory tells which of source, reader, writer and vault has failed; all else stays as it was
     ensures own_failure { (refused : Bool) × Tells result
-        (failures false (is_stopped reader.old) (is_stopped writer.old) (is_broken vault.old))
-        (failures refused (is_stopped reader.new) (is_stopped writer.new) (is_broken vault.new)) }
-    // an honest disk was honest before, and tables that can't fail don't
-    ensures trusted { Trusts T.is_honest T.may_fail vault.old vault.new result }
+        (failures_of false reader.old writer.old vault.old)
+        (failures_of refused reader.new writer.new vault.new) }
+    ensures trusted { Trusts T.Tables vault.old vault.new (result ≡ Err ServeFault.Store) }
 {
     let mut source = LiveSource::ending(alloc, time.questions(), generator, MESSAGES, end);
     serve_by(alloc, routes, &Telling, reader, writer, vault, &mut source)

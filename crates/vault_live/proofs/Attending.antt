@@ -12,8 +12,7 @@ use Rattle.vault_core.specs.Vault.{Vault as Content}
 use Rattle.vault_core.specs.declared.command.Command.{Command}
 use Rattle.vault_core.specs.declared.command.Command.TheVariants.{Audit}
 use Rattle.vault_core.specs.declared.reply.Reply.TheVariants as answer
-use Rattle.vault_engine.specs.Passing.{IsBefore, Keeps, Passage}
-use Rattle.vault_listen.specs.Peers.{vault_passing}
+use Rattle.vault_engine.specs.Passing.{IsBefore, Keeps, Passage, vault_passing}
 use Rattle.vault_listen.specs.declared.fault.ListenFault.{ListenFault}
 use Rattle.vault_listen.specs.declared.fault.ListenFault.TheVariants.{Source, Store, Memory, Accept}
 use Rattle.vault_store.specs.Applied.{tables_of}
@@ -53,8 +52,8 @@ module _ (asks : Asking) (w : Passage) where
   attend_unread about now kept = ([], λ V b. (inl refl, refl, kept V b))
 
   -- what is held wasn't read, since the store failed
-  pub attend_failed : (broken : Bool) → FailsToRead w broken vault.Store → Attends asks w (Err Store)
-  attend_failed broken (is, left) = ([], [], omega arith, λ V b. (inl refl, left V b))
+  pub attend_failed : FailsToRead w vault.Store → Attends asks w (Err Store)
+  attend_failed (is, left) = ([], [], omega arith, λ V b. (inl refl, left V b))
 
   -- a sweep waits, and that is said or not
   pub attend_unswept : (m : Bytes) (number now : ℕ) → IsUntouched w
@@ -156,10 +155,10 @@ module _ {T : Type 0} (honest : T → Type 0) (holds : T → Content → Type 0)
     attends_then asks (Err Accept) never = never
 
     -- and where that one fails to read
-    pub reads_then : (broken : Bool) (f : Fault) → FailsToRead late broken f → FailsToRead both broken f
-    reads_then broken vault.Memory kept_late = λ V b. kept_late V (later V b)
-    reads_then broken vault.Store (is, left) = (is, λ V b. left V (later V b))
-    reads_then broken vault.Reopen never = never
+    pub reads_then : (f : Fault) → FailsToRead late f → FailsToRead both f
+    reads_then vault.Memory kept_late = λ V b. kept_late V (later V b)
+    reads_then vault.Store (is, left) = (is, λ V b. left V (later V b))
+    reads_then vault.Reopen never = never
 
     module _ (asks : Asking) (cs : List Command) (k : ℕ)
         (of : (V : Content) → IsBefore early V → asks V cs)

@@ -1,14 +1,13 @@
 -- Commands that are carried out one after the other, up to one that isn't done.
 use Rattle.std.proofs.Common.{◌≡◌, ◌∙◌, ℕ, ◌+◌, List, [], ◌∷◌, ◌++◌, take, replicate, sym, ap, subst}
-use Rattle.std.proofs.Common.{Bool, true, false, Err, refl}
+use Rattle.std.proofs.Common.{Bool, true, false, Err}
 use Rattle.vault_core.specs.Runs.{replies, run}
 use Rattle.vault_core.specs.Table.{after, reply}
 use Rattle.vault_core.specs.Vault.{Vault as Content}
 use Rattle.vault_core.specs.declared.command.Command.{Command}
 use Rattle.vault_core.specs.declared.reply.Reply.TheVariants as answer
-use Rattle.vault_engine.specs.Passing.{IsBefore, Keeps, Passage}
-use Rattle.vault_listen.specs.Peers.{vault_passing}
-use Rattle.vault_store.specs.Applied.{Contains, tables_of}
+use Rattle.vault_engine.specs.Passing.{IsBefore, Keeps, Passage, vault_passing}
+use Rattle.vault_store.specs.Applied.{Contains, is_broken, tables_of}
 use Rattle.vault_store.specs.declared.vault.Fault.TheVariants as vault
 use Rattle.vault_store.specs.declared.vault.Vault.{Vault}
 use Rattle.vault_changes.proofs.GivenRights.{replies_more, run_more}
@@ -63,13 +62,13 @@ module _ {T : Type 0} (honest : T → Type 0) (holds : T → Content → Type 0)
     stopped_next carried = λ V b. ((before V (back b.0) b.1).0, carried (run (take i cs) V) (ready V b))
 
     -- the store fails at it
-    pub cut_next : (broken : Bool) → Carries c step broken (Err vault.Store)
+    pub cut_next : (b : Bool) → is_broken v2 ≡ b → Carries c step (Err vault.Store)
         → ((V : Content) → (v : Verdict) × (reply V c ≡ reply_of v)) → IsCutAfter i cs both
-    cut_next true carried plain = λ V b. (
+    cut_next true is carried plain = λ V b. (
       (before V (back b.0) b.1).0,
       subst (λ W. leaves (tables_of v2) (run (take i cs) V) W) (ran V)
-          (carried.0 refl (run (take i cs) V) (ready V b)),
+          (carried.0 is (run (take i cs) V) (ready V b)),
     )
-    cut_next false carried plain = λ V b.
+    cut_next false is carried plain = λ V b.
         let W : Content = run (take i cs) V in
-        absurd ((carried.1 refl W (ready V b)).0 (plain W).0 (plain W).1)
+        absurd ((carried.1 is W (ready V b)).0 (plain W).0 (plain W).1)

@@ -8,10 +8,10 @@ use Rattle.std.proofs.lemmas.List.Elements.{All-head, All-tail}
 use Rattle.vault_core.specs.Runs.{run}
 use Rattle.vault_core.specs.Vault.{Vault as Content}
 use Rattle.vault_core.specs.declared.command.Command.{Command}
-use Rattle.vault_engine.specs.Passing.{Passage}
+use Rattle.vault_engine.specs.Passing.{Passage, vault_passing}
 use Rattle.vault_engine.specs.declared.stop.Stop.TheVariants as fault
 use Rattle.vault_listen.specs.Live.{Turns}
-use Rattle.vault_listen.specs.Peers.{Event, Known, Link, closing, events_of, vault_passing}
+use Rattle.vault_listen.specs.Peers.{Event, Known, Link, closing, events_of}
 use Rattle.vault_listen.specs.Peers.Event.{Lost as Missed, Came}
 use Rattle.vault_listen.specs.Service.{AllLead, GoesOn}
 use Rattle.vault_listen.specs.Service as listen

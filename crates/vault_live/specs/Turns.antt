@@ -42,6 +42,10 @@ events_in (Lost ∷ ts) = Missed ∷ events_in ts
 events_in (Served x ∷ ts) = Came x.came x.had ∷ closing x ∷ events_in ts
 events_in (Attended cs news ∷ ts) = events_in ts
 
+-- a network that told so much before tells of these turns now
+abbrev pub TellsTurns : (List Event → Type 0) → (List Event → Type 0) → List Turn → Type 0
+TellsTurns told_old told_new turns = (log : List Event) → told_old log → told_new (log ++ events_in turns)
+
 -- What was said in turns went out, line by line: of each the whole line, or, where the writer failed, a
 -- beginning of it.
 abbrev pub AreSaid : Known → Known → List Turn → Type 0

@@ -1,11 +1,11 @@
 //! The changes of a list, carried out a hundred at a time.
 ghost use Rattle.std.specs.Prelude.{◌≡◌, Err, List, false, true, ℕ};
-ghost use Rattle.vault_store.specs.Applied.{is_broken, tables_of};
-ghost use Rattle.vault_engine.specs.Passing.{Passage};
-ghost use Rattle.vault_listen.specs.Peers.{vault_passing};
+ghost use Rattle.vault_store.specs.Applied.{is_broken};
+ghost use Rattle.vault_engine.specs.Passing.{passage};
 ghost use Rattle.vault_listen.specs.declared.fault.ListenFault.TheVariants.{Store};
 ghost use Rattle.vault_live.specs.Carrying.{AsksRows, EndsSettled, news_in};
 ghost use Rattle.vault_live.specs.Turns.{Attends};
+ghost use Rattle.vault_store.specs.LookUps.{WasHonest};
 
 use crate::first::carry_first;
 use crate::kind::Kind;
@@ -33,15 +33,13 @@ pub(crate) fn carry_list<L: Kind, T: Tables>(
     requires unbroken { is_broken vault.old ≡ false }
     // the first of the changes are carried out, this is said of them, and the vault that they leave is kept;
     // with Store a crash decides on one more
-    ensures attends { let w : Passage = vault_passing T.is_honest T.holds T.leaves vault.old vault.new in
-        Attends (AsksRows L.wants now rows.now) w (news_in result) }
+    ensures attends { Attends (AsksRows L.wants now rows.now) (passage T.Tables vault.old vault.new)
+        (news_in result) }
     // where none are left, all of them are done; or none is, and the list is said to be refused
-    ensures settled { let w : Passage = vault_passing T.is_honest T.holds T.leaves vault.old vault.new in
-        EndsSettled L.about L.wants now rows.now w result }
+    ensures settled { EndsSettled L.about L.wants now rows.now (passage T.Tables vault.old vault.new) result }
     // the vault is broken after Store only
     ensures broken { is_broken vault.new ≡ true → result ≡ Err Store }
-    // a disk that is honest after the call was so before it
-    ensures disk_honest { T.is_honest (tables_of vault.new) → T.is_honest (tables_of vault.old) }
+    ensures disk_honest { WasHonest T.Tables vault.old vault.new }
 {
     let changes = match L::changes(alloc, vault, rows, now) {
         Ok(Ok(changes)) => changes,

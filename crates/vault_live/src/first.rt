@@ -1,10 +1,10 @@
 //! The first of some commands, carried out one by one.
 ghost use Rattle.std.specs.Prelude.{◌≡◌, ◌≤◌, All, false, length, map, true};
-ghost use Rattle.vault_store.specs.Applied.{is_broken, tables_of};
-ghost use Rattle.vault_engine.specs.Passing.{Passage};
-ghost use Rattle.vault_listen.specs.Peers.{vault_passing};
+ghost use Rattle.vault_store.specs.Applied.{is_broken};
+ghost use Rattle.vault_engine.specs.Passing.{passage};
 ghost use Rattle.vault_changes.specs.Carried.{IsCarriedOut};
 ghost use Rattle.vault_live.specs.First.{Ends};
+ghost use Rattle.vault_store.specs.LookUps.{WasHonest};
 
 use vault_changes::carry::Orders;
 use vault_changes::change::change;
@@ -47,14 +47,13 @@ pub(crate) fn carry_first<X, O: Orders<X>, T: Tables>(
     requires unbroken { is_broken vault.old ≡ false }
     // the first so many are done, and the vault that they leave is kept; the next one ended it, where they
     // aren't all or enough
-    ensures ends { let w : Passage = vault_passing T.is_honest T.holds T.leaves vault.old vault.new in
-        Ends result.end result.done (map (O.command_of orders.now) items.now) w }
+    ensures ends { Ends result.end result.done (map (O.command_of orders.now) items.now)
+        (passage T.Tables vault.old vault.new) }
     // no more are done than there are
     ensures few { result.done ≤ length items.now }
     // the vault is broken only where the store failed
     ensures broken { is_broken vault.new ≡ true → result.end ≡ End.Store }
-    // a disk that is honest after the call was so before it
-    ensures disk_honest { T.is_honest (tables_of vault.new) → T.is_honest (tables_of vault.old) }
+    ensures disk_honest { WasHonest T.Tables vault.old vault.new }
 {
     let mut done = 0;
     for item in items {

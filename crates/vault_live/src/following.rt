@@ -1,13 +1,13 @@
 //! The office that follows a file of a list.
 ghost use Rattle.std.specs.Prelude.{◌≡◌, ◌⊎◌, Err, IfOk, false, if◌then◌else◌, true};
-ghost use Rattle.vault_store.specs.Applied.{is_broken, tables_of};
-ghost use Rattle.vault_engine.specs.Passing.{Passage};
-ghost use Rattle.vault_listen.specs.Peers.{vault_passing};
+ghost use Rattle.vault_store.specs.Applied.{is_broken};
+ghost use Rattle.vault_engine.specs.Passing.{passage};
 ghost use Rattle.vault_listen.specs.declared.fault.ListenFault.TheVariants.{Store};
 ghost use Rattle.vault_live.specs.Carrying.{AsksAt};
 ghost use Rattle.vault_live.specs.Following.{Remembers};
 ghost use Rattle.vault_live.specs.News.{wants_merchant};
 ghost use Rattle.vault_live.specs.Turns.{Attends};
+ghost use Rattle.vault_store.specs.LookUps.{WasHonest};
 
 use crate::carrying::carry_list;
 use crate::desk::Desk;
@@ -154,8 +154,8 @@ impl<'x, D: Desk, L: Kind> Following<'x, D, L> {
         requires unbroken { is_broken vault.old ≡ false }
         // the first of the changes are carried out, this is said of them, and the vault that they leave is
         // kept; with Store a crash decides on one more
-        ensures attends { let w : Passage = vault_passing T.is_honest T.holds T.leaves vault.old vault.new in
-            Attends (AsksAt L.names L.wants (D.says self.now.desk.now self.now.path.now) now) w result }
+        ensures attends { Attends (AsksAt L.names L.wants (D.says self.now.desk.now self.now.path.now) now)
+            (passage T.Tables vault.old vault.new) result }
         // the vault is broken after Store only
         ensures broken { is_broken vault.new ≡ true → result ≡ Err Store }
         // what is remembered is of this file still
@@ -163,8 +163,7 @@ impl<'x, D: Desk, L: Kind> Following<'x, D, L> {
         // rows that are refused for want of a merchant aren't forgotten
         ensures waits { IfOk result (λ news. wants_merchant news ≡ true
             → (kept.new.waiting ≡ kept.old.rows) ⊎ (kept.new.rows ≡ kept.old.rows)) }
-        // a disk that is honest after the call was so before it
-        ensures disk_honest { T.is_honest (tables_of vault.new) → T.is_honest (tables_of vault.old) }
+        ensures disk_honest { WasHonest T.Tables vault.old vault.new }
     {
         let Some(rows) = kept.rows.take() else {
             return Ok(News::Nothing);

@@ -1,8 +1,7 @@
 //! Kinds of lists that are followed.
 ghost use Rattle.std.specs.Prelude.{◌≡◌, All, IfErr, IfOk, MatchResult, false, length};
-ghost use Rattle.vault_store.specs.Applied.{is_broken, tables_of};
-ghost use Rattle.vault_engine.specs.Passing.{IsBefore, Keeps, Passage};
-ghost use Rattle.vault_listen.specs.Peers.{vault_passing};
+ghost use Rattle.vault_store.specs.Applied.{is_broken};
+ghost use Rattle.vault_engine.specs.Passing.{IsBefore, Keeps, Passage, passage};
 ghost use Rattle.vault_changes.specs.Carried.{IsCarriedOut};
 ghost use Rattle.vault_changes.specs.Failing.{BreaksByStore};
 ghost use Rattle.vault_changes.specs.Grants.{AreDone};
@@ -10,6 +9,7 @@ ghost use Rattle.vault_changes.specs.Settling.{FailsToRead};
 ghost use Rattle.vault_live.specs.Kinds.{AreSteps};
 ghost use Rattle.vault_live.specs.Listed.{IfFaulty, IfGood};
 ghost use Rattle.vault_live.specs.News.{IsSaidOf};
+ghost use Rattle.vault_store.specs.LookUps.{WasHonest};
 
 use crate::listed::Listed;
 use crate::news::News;
@@ -73,24 +73,18 @@ pub trait Kind {
         requires unbroken { is_broken vault.old ≡ false }
         // with Ok, on an honest disk, the rows ask for these by each vault that was held, or it refuses them
         // so; that one is kept
-        ensures found { let w : Passage = vault_passing T.is_honest T.holds T.leaves vault.old vault.new in
+        ensures found { let w : Passage = passage T.Tables vault.old vault.new in
             IfOk result (λ it. (V : Content) → IsBefore w V
             → MatchResult it (λ commands. commands.items ≡ wants now rows.now V) (refuses rows.now V)
             × Keeps w V) }
         // every vault replies to each command by done or a refusal, and lives that it sets are in range
         ensures carried { IfOk result (λ it. IfOk it (λ commands. All IsCarriedOut commands.items)) }
         // on an honest disk they are proper, and one that is refused leaves the vault as it was
-        ensures steps { let w : Passage = vault_passing T.is_honest T.holds T.leaves vault.old vault.new in
-            IfOk result (λ it. (V : Content) → IsBefore w V
+        ensures steps { IfOk result (λ it. (V : Content) → IsBefore (passage T.Tables vault.old vault.new) V
             → IfOk it (λ commands. AreSteps commands.items)) }
-        // on an honest disk, Memory keeps a vault that was held, and Store breaks it, but a crash leaves it;
-        // Reopen never comes
-        ensures failed { let w : Passage = vault_passing T.is_honest T.holds T.leaves vault.old vault.new in
-            IfErr result (FailsToRead w (is_broken vault.new)) }
-        // the vault is broken after Store only
+        ensures failed { IfErr result (FailsToRead (passage T.Tables vault.old vault.new)) }
         ensures broken { BreaksByStore vault.new result }
-        // a disk that is honest after the call was so before it
-        ensures disk_honest { T.is_honest (tables_of vault.new) → T.is_honest (tables_of vault.old) };
+        ensures disk_honest { WasHonest T.Tables vault.old vault.new };
 
     /// What is said of commands of such a list that are done.
     fn news(commands: &[Command], now: Moment) -> News

@@ -1,14 +1,14 @@
 //! Whether a vault knows the merchants of a list.
 ghost use Rattle.std.specs.Prelude.{◌≡◌, IfErr, IfOk, false};
 ghost use Rattle.vault_core.specs.Vault.{Vault as Content};
-ghost use Rattle.vault_store.specs.Applied.{is_broken, tables_of};
+ghost use Rattle.vault_store.specs.Applied.{is_broken};
 ghost use Rattle.vault_store.specs.Listed.{merchant_rows};
-ghost use Rattle.vault_engine.specs.Passing.{IsBefore, Keeps, Passage};
-ghost use Rattle.vault_listen.specs.Peers.{vault_passing};
+ghost use Rattle.vault_engine.specs.Passing.{IsBefore, Keeps, Passage, passage};
 ghost use Rattle.vault_changes.specs.Failing.{BreaksByStore};
 ghost use Rattle.vault_changes.specs.Settling.{FailsToRead};
 ghost use Rattle.vault_live.specs.Known.{has_merchant as has_merchant_in};
 ghost use Rattle.vault_live.specs.Known.{lacks_merchant as lacks_merchant_in};
+ghost use Rattle.vault_store.specs.LookUps.{WasHonest};
 
 use vault_changes::changes::ListedRight;
 use vault_core::name::MerchantId;
@@ -47,20 +47,14 @@ pub(crate) fn lacks_one<T: Tables>(
     vault: &mut Vault<T>,
     rows: &[ListedRight],
 ) -> Result<bool, Fault>
-    // the vault isn't broken
-    requires { is_broken vault.old ≡ false }
+    requires unbroken { is_broken vault.old ≡ false }
     // with Ok, on an honest disk, it is so of each vault that was held, and that one is kept
-    ensures told { let w : Passage = vault_passing T.is_honest T.holds T.leaves vault.old vault.new in
+    ensures told { let w : Passage = passage T.Tables vault.old vault.new in
         IfOk result (λ lacks. (V : Content) → IsBefore w V
         → (lacks ≡ lacks_merchant_in (merchant_rows V) rows.now) × Keeps w V) }
-    // on an honest disk, Memory keeps a vault that was held, and Store breaks it, but a crash leaves it;
-    // Reopen never comes
-    ensures failed { let w : Passage = vault_passing T.is_honest T.holds T.leaves vault.old vault.new in
-        IfErr result (FailsToRead w (is_broken vault.new)) }
-    // the vault is broken after Store only
+    ensures failed { IfErr result (FailsToRead (passage T.Tables vault.old vault.new)) }
     ensures broken { BreaksByStore vault.new result }
-    // a disk that is honest after the call was so before it
-    ensures disk_honest { T.is_honest (tables_of vault.new) → T.is_honest (tables_of vault.old) }
+    ensures disk_honest { WasHonest T.Tables vault.old vault.new }
 {
     let held = vault.merchants()?;
     Ok(lacks_merchant(held.as_slice(), rows))

@@ -1,11 +1,11 @@
 //! What has something to do between two connections: one office, one that may be absent, or two.
 ghost use Rattle.std.specs.Prelude.{◌≡◌, Err, Ok, false, true};
-ghost use Rattle.vault_store.specs.Applied.{is_broken, tables_of};
-ghost use Rattle.vault_engine.specs.Passing.{Passage};
-ghost use Rattle.vault_listen.specs.Peers.{vault_passing};
+ghost use Rattle.vault_store.specs.Applied.{is_broken};
+ghost use Rattle.vault_engine.specs.Passing.{passage};
 ghost use Rattle.vault_listen.specs.declared.fault.ListenFault.TheVariants.{Store};
 ghost use Rattle.vault_live.specs.Turns.{Attends};
 ghost use Rattle.vault_live.specs.declared.news.News.TheVariants.{Nothing};
+ghost use Rattle.vault_store.specs.LookUps.{WasHonest};
 
 use crate::news::News;
 use vault_listen::fault::ListenFault;
@@ -48,16 +48,15 @@ pub trait Office {
         requires unbroken { is_broken vault.old ≡ false }
         // the first commands of those that were asked for are carried out, and the vault that they leave is
         // kept; with Store a crash decides on one more
-        ensures attends { let w : Passage = vault_passing T.is_honest T.holds T.leaves vault.old vault.new in
-            Attends (asks self.now (K.tells time.now)) w result }
+        ensures attends { Attends (asks self.now (K.tells time.now)) (passage T.Tables vault.old vault.new)
+            result }
         // the vault is broken after Store only
         ensures broken { is_broken vault.new ≡ true → result ≡ Err Store }
         // one that carries out nothing answers that nothing came
         ensures calm { acts self.now ≡ false → result ≡ Ok Nothing }
         // what it remembers is its own still
         ensures remembers { remembers self.now kept.new }
-        // a disk that is honest after the call was so before it
-        ensures disk_honest { T.is_honest (tables_of vault.new) → T.is_honest (tables_of vault.old) };
+        ensures disk_honest { WasHonest T.Tables vault.old vault.new };
 
     /// What was refused for want of a merchant or a right is to be tried again, since those have changed.
     fn again(&self, kept: &mut Self::Kept)

@@ -4,9 +4,8 @@ ghost use Rattle.vault_core.specs.Dead.{dead_tokens};
 ghost use Rattle.vault_core.specs.Keys.{Bytes};
 ghost use Rattle.vault_core.specs.Vault.{Vault as Content};
 ghost use Rattle.vault_core.specs.declared.command.Command.{Command};
-ghost use Rattle.vault_store.specs.Applied.{is_broken, tables_of};
-ghost use Rattle.vault_engine.specs.Passing.{IsBefore, Keeps, Passage};
-ghost use Rattle.vault_listen.specs.Peers.{vault_passing};
+ghost use Rattle.vault_store.specs.Applied.{is_broken};
+ghost use Rattle.vault_engine.specs.Passing.{IsBefore, Keeps, Passage, passage};
 ghost use Rattle.vault_listen.specs.declared.fault.ListenFault.TheVariants.{Store};
 ghost use Rattle.vault_changes.specs.Failing.{BreaksByStore};
 ghost use Rattle.vault_changes.specs.Grants.{AreDone};
@@ -16,6 +15,7 @@ ghost use Rattle.vault_live.specs.Carrying.{news_in};
 ghost use Rattle.vault_live.specs.News.{IsSaidOf};
 ghost use Rattle.vault_live.specs.Sweeping.{AsksFirst, IsDue};
 ghost use Rattle.vault_live.specs.Turns.{Attends};
+ghost use Rattle.vault_store.specs.LookUps.{WasHonest};
 
 use crate::first::{Carried, End, MOST, carry_first};
 use crate::news::News;
@@ -57,20 +57,14 @@ fn dead_first<T: Tables>(
     merchant: MerchantId,
     now: Moment,
 ) -> Result<Vec<Token>, Fault>
-    // the vault isn't broken
-    requires { is_broken vault.old ≡ false }
+    requires unbroken { is_broken vault.old ≡ false }
     // with Ok, on an honest disk, these are the first of each vault that was held, and that one is kept
-    ensures found { let w : Passage = vault_passing T.is_honest T.holds T.leaves vault.old vault.new in
+    ensures found { let w : Passage = passage T.Tables vault.old vault.new in
         IfOk result (λ tokens. (V : Content) → IsBefore w V
         → (tokens.items ≡ take 100 (dead_tokens V merchant now)) × Keeps w V) }
-    // on an honest disk, Memory keeps a vault that was held, and Store breaks it, but a crash leaves it;
-    // Reopen never comes
-    ensures failed { let w : Passage = vault_passing T.is_honest T.holds T.leaves vault.old vault.new in
-        IfErr result (FailsToRead w (is_broken vault.new)) }
-    // the vault is broken after Store only
+    ensures failed { IfErr result (FailsToRead (passage T.Tables vault.old vault.new)) }
     ensures broken { BreaksByStore vault.new result }
-    // a disk that is honest after the call was so before it
-    ensures disk_honest { T.is_honest (tables_of vault.new) → T.is_honest (tables_of vault.old) }
+    ensures disk_honest { WasHonest T.Tables vault.old vault.new }
 {
     match vault.dead(merchant, now, MOST) {
         Ok(tokens) => Ok(tokens),
@@ -86,19 +80,13 @@ fn purges_due<T: Tables>(
     merchant: MerchantId,
     now: Moment,
 ) -> Result<Due, Fault>
-    // the vault isn't broken
-    requires { is_broken vault.old ≡ false }
+    requires unbroken { is_broken vault.old ≡ false }
     // with Ok, on an honest disk, it is due by each vault that was held, and that one is kept
-    ensures due { let w : Passage = vault_passing T.is_honest T.holds T.leaves vault.old vault.new in
+    ensures due { let w : Passage = passage T.Tables vault.old vault.new in
         IfOk result (λ due. (V : Content) → IsBefore w V → IsDue merchant now due V × Keeps w V) }
-    // on an honest disk, Memory keeps a vault that was held, and Store breaks it, but a crash leaves it;
-    // Reopen never comes
-    ensures failed { let w : Passage = vault_passing T.is_honest T.holds T.leaves vault.old vault.new in
-        IfErr result (FailsToRead w (is_broken vault.new)) }
-    // the vault is broken after Store only
+    ensures failed { IfErr result (FailsToRead (passage T.Tables vault.old vault.new)) }
     ensures broken { BreaksByStore vault.new result }
-    // a disk that is honest after the call was so before it
-    ensures disk_honest { T.is_honest (tables_of vault.new) → T.is_honest (tables_of vault.old) }
+    ensures disk_honest { WasHonest T.Tables vault.old vault.new }
 {
     let tokens = dead_first(vault, merchant, now)?;
     if tokens.is_empty() {
@@ -143,16 +131,14 @@ pub(crate) fn sweep_first<T: Tables>(
     sweeper: Sweeper,
     now: Moment,
 ) -> Result<(News, bool), ListenFault>
-    // the vault isn't broken
-    requires { is_broken vault.old ≡ false }
+    requires unbroken { is_broken vault.old ≡ false }
     // the first of the purges are carried out, this is said of them, and the vault that they leave is kept;
     // with Store a crash decides on one more
-    ensures attends { let w : Passage = vault_passing T.is_honest T.holds T.leaves vault.old vault.new in
-        Attends (AsksFirst sweeper now) w (news_in result) }
+    ensures attends { Attends (AsksFirst sweeper now) (passage T.Tables vault.old vault.new)
+        (news_in result) }
     // the vault is broken after Store only
     ensures broken { is_broken vault.new ≡ true → result ≡ Err Store }
-    // a disk that is honest after the call was so before it
-    ensures disk_honest { T.is_honest (tables_of vault.new) → T.is_honest (tables_of vault.old) }
+    ensures disk_honest { WasHonest T.Tables vault.old vault.new }
 {
     let (caller, merchant) = (sweeper.caller, sweeper.merchant);
     let tokens = match purges_due(vault, merchant, now) {

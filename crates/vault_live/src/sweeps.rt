@@ -1,15 +1,14 @@
 //! The office that sweeps the merchants of a list.
-ghost use Rattle.std.specs.Prelude.{◌≡◌, ◌⊎◌, Err, IfSome, List, false, true};
-ghost use Rattle.vault_store.specs.Applied.{is_broken, tables_of};
-ghost use Rattle.vault_engine.specs.Passing.{Passage};
-ghost use Rattle.vault_listen.specs.Peers.{vault_passing};
+ghost use Rattle.std.specs.Prelude.{◌≡◌, ◌⊎◌, Err, IfSome, false, true};
+ghost use Rattle.vault_store.specs.Applied.{is_broken};
+ghost use Rattle.vault_engine.specs.Passing.{passage};
 ghost use Rattle.vault_listen.specs.declared.fault.ListenFault.TheVariants.{Store};
-ghost use Rattle.vault_merchants.specs.Listed.{AreListed, Wanted};
-ghost use Rattle.vault_live.specs.Following.{AreSettled, IsFresh};
+ghost use Rattle.vault_live.specs.Following.{IsFresh};
 ghost use Rattle.vault_live.specs.News.{is_idle};
 ghost use Rattle.vault_live.specs.Sweeping.{AsksFirst, IsSweeper, NamesSweeper, RemembersSweeps};
 ghost use Rattle.vault_live.specs.Turns.{Attends};
 ghost use Rattle.vault_live.specs.declared.news.News.TheVariants.{Nothing};
+ghost use Rattle.vault_store.specs.LookUps.{WasHonest};
 
 use crate::desk::Desk;
 use crate::following::Following;
@@ -153,16 +152,13 @@ impl<'x, D: Desk> Sweeps<'x, D> {
         now: Moment,
         vault: &mut Vault<T>,
     ) -> Result<News, ListenFault>
-        // the vault isn't broken
-        requires { is_broken vault.old ≡ false }
+        requires unbroken { is_broken vault.old ≡ false }
         // the first of the purges are carried out, this is said of them, and the vault that they leave is
         // kept; with Store a crash decides on one more
-        ensures attends { let w : Passage = vault_passing T.is_honest T.holds T.leaves vault.old vault.new in
-            Attends (AsksFirst sweeper.1 now) w result }
+        ensures attends { Attends (AsksFirst sweeper.1 now) (passage T.Tables vault.old vault.new) result }
         // the vault is broken after Store only
         ensures broken { is_broken vault.new ≡ true → result ≡ Err Store }
-        // a disk that is honest after the call was so before it
-        ensures disk_honest { T.is_honest (tables_of vault.new) → T.is_honest (tables_of vault.old) }
+        ensures disk_honest { WasHonest T.Tables vault.old vault.new }
     {
         let says = round.says;
         match sweep_first(vault, sweeper.1, now) {

@@ -1,10 +1,10 @@
 //! Connections of peers, served one after the other by one vault, with what is asked for between them.
-ghost use Rattle.std.specs.Prelude.{◌≡◌, ◌++◌, Err, List, false, true};
+ghost use Rattle.std.specs.Prelude.{◌≡◌, Err, List, false, true};
 ghost use Rattle.vault_wire.specs.Watching.{inner_of};
-ghost use Rattle.vault_store.specs.Applied.{is_broken, tables_of};
-ghost use Rattle.vault_engine.specs.Passing.{Passage};
-ghost use Rattle.vault_listen.specs.Peers.{Event, vault_passing};
-ghost use Rattle.vault_live.specs.Turns.{AreSaid, Leaves, Turn, TurnLeaves, events_in};
+ghost use Rattle.vault_store.specs.Applied.{is_broken};
+ghost use Rattle.vault_engine.specs.Passing.{passage};
+ghost use Rattle.vault_live.specs.Turns.{AreSaid, Leaves, TellsTurns, Turn, TurnLeaves};
+ghost use Rattle.vault_store.specs.LookUps.{WasHonest};
 
 use crate::news::say;
 use crate::office::Office;
@@ -41,21 +41,19 @@ fn serve_turn<P: Peers, O: Office, K: Timekeeper, G: Rng, W: Write, T: Tables>(
     requires remembers { O.remembers office.now kept.old }
     requires unbroken { is_broken vault.old ≡ false }
     // what came, from the vault that was held: what was asked for, which was said, and one connection at most
-    ensures turned { let w : Passage = vault_passing T.is_honest T.holds T.leaves vault.old vault.new in
-        (ts : List Turn) × TurnLeaves (K.tells time.now) (O.asks office.now (K.tells time.now)) ts w result
-        × ((log : List Event) → P.tells peers.old log → P.tells peers.new (log ++ events_in ts))
+    ensures turned { (ts : List Turn) × TurnLeaves (K.tells time.now) (O.asks office.now (K.tells time.now))
+        ts (passage T.Tables vault.old vault.new) result
+        × TellsTurns (P.tells peers.old) (P.tells peers.new) ts
         × AreSaid (W.contents (inner_of output.old)) (W.contents (inner_of output.new)) ts }
     // the vault is broken after Store only
     ensures broken { is_broken vault.new ≡ true → result ≡ Err ListenFault.Store }
     // where the office carries out nothing, it is broken after Store
-    ensures store { O.acts office.now ≡ false → result ≡ Err ListenFault.Store
-        → is_broken vault.new ≡ true }
+    ensures store { O.acts office.now ≡ false → result ≡ Err ListenFault.Store → is_broken vault.new ≡ true }
     // and then nothing is said
     ensures quiet { O.acts office.now ≡ false → output.new ≡ output.old }
     // what the office remembers is its own still
     ensures remembers { O.remembers office.now kept.new }
-    // a disk that is honest after the call was so before it
-    ensures disk_honest { T.is_honest (tables_of vault.new) → T.is_honest (tables_of vault.old) }
+    ensures disk_honest { WasHonest T.Tables vault.old vault.new }
 {
     let news = match office.attend(kept, time, vault) {
         Ok(news) => news,
@@ -96,20 +94,17 @@ pub fn serve_turns<P: Peers, O: Office, K: Timekeeper, G: Rng, W: Write, T: Tabl
     requires unbroken { is_broken vault.old ≡ false }
     // turns came one after the other, each from the vault that those before it leave, and what was done in
     // them was said; the result says what the last one leaves
-    ensures served { let w : Passage = vault_passing T.is_honest T.holds T.leaves vault.old vault.new in
-        (ts : List Turn)
-        × Leaves (K.tells time.now) (O.asks office.now (K.tells time.now)) connections ts w result
-        × ((log : List Event) → P.tells peers.old log → P.tells peers.new (log ++ events_in ts))
+    ensures served { (ts : List Turn) × Leaves (K.tells time.now) (O.asks office.now (K.tells time.now))
+        connections ts (passage T.Tables vault.old vault.new) result
+        × TellsTurns (P.tells peers.old) (P.tells peers.new) ts
         × AreSaid (W.contents (inner_of output.old)) (W.contents (inner_of output.new)) ts }
     // the vault is broken after Store only
     ensures broken { is_broken vault.new ≡ true → result ≡ Err ListenFault.Store }
     // where the office carries out nothing, it is broken after Store
-    ensures store { O.acts office.now ≡ false → result ≡ Err ListenFault.Store
-        → is_broken vault.new ≡ true }
+    ensures store { O.acts office.now ≡ false → result ≡ Err ListenFault.Store → is_broken vault.new ≡ true }
     // and then nothing is said
     ensures quiet { O.acts office.now ≡ false → output.new ≡ output.old }
-    // a disk that is honest after the call was so before it
-    ensures disk_honest { T.is_honest (tables_of vault.new) → T.is_honest (tables_of vault.old) }
+    ensures disk_honest { WasHonest T.Tables vault.old vault.new }
 {
     let Ok(routes) = Routes::new(alloc) else {
         return Err(ListenFault::Memory);

@@ -1,58 +1,24 @@
 -- A migration, of what is in an older version and of all else.
-use Rattle.std.proofs.Common.{◌≡◌, ◌∙◌, ℤ, false, Result, subst, sym}
+use Rattle.std.proofs.Common.{◌≡◌, ◌∙◌, ℤ, Result, subst, sym}
 use Rattle.sqlite.specs.Held.{Held, state}
 use Rattle.sqlite_trees.specs.declared.store.Store.{Ghosts}
-use Rattle.sql_tables.specs.Transactions.{KeepsDoubts}
 use Rattle.vault_migrate.proofs.Moving.{broken_else, broken_in, each_err, held_newest, left_newest}
 use Rattle.vault_migrate.proofs.Moving.{movable_else, movable_in, never_blank, older_schema}
 use Rattle.vault_migrate.proofs.Moving.{version_else, version_in}
-use Rattle.vault_migrate.specs.Migrated.{ChecksFit, HoldsMoved, HoldsSoundMoved, KeepsHeld, LeavesMovedAlone}
-use Rattle.vault_migrate.specs.Migrated.{MakesBlank, Migrates, WritesNothingIn, WritesNothingWhereSome}
+use Rattle.vault_migrate.specs.Migrated.{MakesOrChecks, Migrates, Moves}
 use Rattle.vault_migrate.specs.Moved.{HoldsSoundIn, IsNoOlder, IsOlder, LeavesIn}
-use Rattle.vault_migrate.specs.Refused.{StaysIn}
 use Rattle.vault_schema.proofs.Newest.{held_in_newest, one_version}
 use Rattle.vault_schema.specs.Holds.{HoldsIn}
 use Rattle.vault_schema.specs.Stands.{newest}
 use Rattle.vault_schema.specs.Versions.{schema_of}
 use Rattle.vault_schema.specs.declared.version.Version.{Version}
 use Rattle.vault_verdict.proofs.Results.{if_err, if_so, on_ok}
-use Rattle.vault_verdict.specs.Opened.{IsFit, IsWrong}
 use Rattle.vault_verdict.specs.ReadAs.{IsFullIn}
-use Rattle.vault_verdict.specs.Refusals.{IsBrokenWhereFull, IsLeastWhereFull, IsOtherIn, IsUntouched}
-use Rattle.vault_verdict.specs.Refusals.{LeavesAsFound, RowsBreak, SparesFit, TellsOther, WritesNothing}
 use Rattle.vault_verdict.specs.declared.fault.OpenFault.{OpenFault}
-
-module _ {S : Type 0} (g : Ghosts S) (old new : Held S) (result : Result ℤ OpenFault) where
-  -- what is in one older version is checked there, and moves to another
-  pub record MovesOlder (v to : Version) : Type 0 where
-    pub idle : new.in_transaction ≡ false
-    pub clean : KeepsDoubts g old new
-    pub moved : HoldsMoved g v to old new result
-    pub whole : LeavesMovedAlone g v to old new result
-    pub sound : HoldsSoundMoved g v to old new result
-    pub stays : StaysIn g v old new result
-    pub unwritten : WritesNothingIn g v old new result
-    pub damaged : RowsBreak g old new result (IsBrokenWhereFull v)
-    pub wrong : TellsOther g old new result (IsOtherIn v)
-
-  -- all else is made or checked
-  pub record MakesOrChecks : Type 0 where
-    pub idle : new.in_transaction ≡ false
-    pub clean : KeepsDoubts g old new
-    pub kept : KeepsHeld g old new result
-    pub same : IsUntouched g newest old new result
-    pub blank : MakesBlank g old new result
-    pub checked : ChecksFit g old new result
-    pub left : LeavesAsFound g old new
-    pub unwritten : WritesNothing g old new result
-    pub unmade : WritesNothingWhereSome g old new result
-    pub damaged : RowsBreak g old new result IsLeastWhereFull
-    pub wrong : TellsOther g old new result IsWrong
-    pub spared : SparesFit g old new result IsFit
 
 module _ {S : Type 0} {g : Ghosts S} {old new : Held S} {result : Result ℤ OpenFault} where
   pub migrates_older : (to : Version → Version) (v : Version) → IsOlder v
-      → (state g old).now.schema ≡ schema_of v → MovesOlder g old new result v (to v)
+      → (state g old).now.schema ≡ schema_of v → Moves g v (to v) old new result
       → Migrates g to old new result
   migrates_older to v older is it = record {
     idle = it.idle;
@@ -108,7 +74,7 @@ module _ {S : Type 0} {g : Ghosts S} {old new : Held S} {result : Result ℤ Ope
         (left_newest V (state g new) ((it.left clean).held V was.1)));
     unwritten = it.unwritten;
     unmoved = λ clean. if_err result (λ e less none. less) (it.unmade clean);
-    damaged = λ clean. broken_else (state g old).now none result (it.damaged clean);
-    wrong = λ clean. version_else (state g old).now none result (it.wrong clean);
-    spared = λ clean. movable_else (state g old).now none result (it.spared clean);
+    damaged = λ clean. broken_else (state g old).now none result (it.rows.damaged clean);
+    wrong = λ clean. version_else (state g old).now none result (it.rows.wrong clean);
+    spared = λ clean. movable_else (state g old).now none result (it.rows.spared clean);
   }

@@ -9,6 +9,7 @@ use Rattle.sql_tables.specs.Transactions.{KeepsDoubts}
 use Rattle.vault_core.specs.Vault.{Vault, empty_vault}
 use Rattle.vault_migrate.specs.Moved.{FindsBroken, FindsVersion, HoldsSoundIn, IsMovable, IsNoOlder, IsOlder}
 use Rattle.vault_migrate.specs.Moved.{LeavesIn}
+use Rattle.vault_migrate.specs.Refused.{StaysIn}
 use Rattle.vault_schema.specs.Holds.{Holds, HoldsIn}
 use Rattle.vault_schema.specs.Making.{IsReady}
 use Rattle.vault_schema.specs.Stands.{newest}
@@ -17,7 +18,8 @@ use Rattle.vault_schema.specs.declared.version.Version.{Version}
 use Rattle.vault_verdict.specs.Opened.{IsFit}
 use Rattle.vault_verdict.specs.ReadAs.{IsFullIn}
 use Rattle.vault_verdict.specs.Reading.{IsFull}
-use Rattle.vault_verdict.specs.Refusals.{IsUntouched, RowsBreak, SparesFit, TellsOther, WritesNothing}
+use Rattle.vault_verdict.specs.Refusals.{IsBrokenWhereFull, IsOtherIn, IsUntouched, JudgesRows}
+use Rattle.vault_verdict.specs.Refusals.{LeavesAsFound, RowsBreak, SparesFit, TellsOther, WritesNothing}
 use Rattle.vault_verdict.specs.declared.fault.OpenFault.{OpenFault}
 use Rattle.vault_verdict.specs.declared.fault.OpenFault.TheVariants.{Store}
 
@@ -63,6 +65,39 @@ module _ {S : Type 0} (g : Ghosts S) {R : Type 0} where
   WritesNothingWhereSome old new result = HasCleanDisk (state g new)
       → IfErr result (λ e. ¬ ((state g old).now.schema ≡ no_schema)
       → LeavesNoMore (state g old) (state g new))
+
+-- What is in an older version is checked there, and moves to another: a vault that was held stands there,
+-- whole, and a refusal leaves it as it was.
+pub record Moves {S : Type 0} (g : Ghosts S) (v to : Version) (old new : Held S) (result : Result ℤ OpenFault)
+    : Type 0 where
+  pub idle : new.in_transaction ≡ false
+  pub clean : KeepsDoubts g old new
+  pub moved : HoldsMoved g v to old new result
+  pub whole : LeavesMovedAlone g v to old new result
+  pub sound : HoldsSoundMoved g v to old new result
+  pub stays : StaysIn g v old new result
+  pub unwritten : WritesNothingIn g v old new result
+  -- 31 says the least rule that the rows break, where they are full and the version's
+  pub damaged : RowsBreak g old new result (IsBrokenWhereFull v)
+  -- 30 says the other version that is told, where the schema is this version's
+  pub wrong : TellsOther g old new result (IsOtherIn v)
+
+-- What is in no older version is made, where there is no table, or checked; a vault that was held is held
+-- still.
+pub record MakesOrChecks {S : Type 0} (g : Ghosts S) (old new : Held S) (result : Result ℤ OpenFault)
+    : Type 0 where
+  pub idle : new.in_transaction ≡ false
+  pub clean : KeepsDoubts g old new
+  pub kept : KeepsHeld g old new result
+  pub same : IsUntouched g newest old new result
+  pub blank : MakesBlank g old new result
+  pub checked : ChecksFit g old new result
+  pub left : LeavesAsFound g old new
+  pub unwritten : WritesNothing g old new result
+  pub unmade : WritesNothingWhereSome g old new result
+  -- 31 says the least rule that the rows break, 30 another version that is told, or 0; neither comes to a
+  -- sound vault
+  pub rows : JudgesRows g old new result
 
 -- a store is migrated, where `to` is the version that one in a version has then
 pub record Migrates {S : Type 0} (g : Ghosts S) (to : Version → Version) (old new : Held S)

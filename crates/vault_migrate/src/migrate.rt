@@ -1,27 +1,18 @@
 //! A vault's file is checked whole in the schema that it has, and moves up.
-ghost use Rattle.std.specs.Prelude.{◌≡◌, ◌<◌, false, None, IfOk, OnOk};
+ghost use Rattle.std.specs.Prelude.{◌≡◌, false, None, IfOk, OnOk};
 ghost use Rattle.sqlite.specs.Held.{state};
 ghost use Rattle.sqlite.specs.State.{HasCleanDisk};
 ghost use Rattle.sql_tables.specs.Schema.{no_schema};
-ghost use Rattle.sql_tables.specs.Transactions.{KeepsDoubts};
-ghost use Rattle.vault_migrate.specs.Migrated.{ChecksFit, HoldsMoved, HoldsSoundMoved, KeepsHeld};
-ghost use Rattle.vault_migrate.specs.Migrated.{LeavesMovedAlone, MakesBlank, Migrates, WritesNothingIn};
-ghost use Rattle.vault_migrate.specs.Migrated.{WritesNothingWhereSome};
-ghost use Rattle.vault_verdict.specs.Refusals.{IsBrokenWhereFull, IsLeastWhereFull, IsOtherIn, IsUntouched};
-ghost use Rattle.vault_verdict.specs.Refusals.{LeavesAsFound, RowsBreak, SparesFit, TellsOther};
-ghost use Rattle.vault_verdict.specs.Refusals.{WritesNothing};
-ghost use Rattle.vault_migrate.specs.Refused.{StaysIn};
 ghost use Rattle.vault_core.specs.Vault.{Vault};
-ghost use Rattle.vault_migrate.specs.Moved.{IsKnown};
-ghost use Rattle.vault_migrate.specs.Moved.{IsNoOlder, IsSoundWhereFull, LeavesClimbed};
+ghost use Rattle.vault_migrate.specs.Migrated.{MakesOrChecks, Migrates, Moves};
+ghost use Rattle.vault_migrate.specs.Moved.{IsKnown, IsNoOlder, IsSoundWhereFull, LeavesClimbed};
 ghost use Rattle.vault_migrate.specs.Moved.{LeavesMoved, LeavesSome, LeavesStep};
-ghost use Rattle.vault_verdict.specs.Opened.{IsFit};
-ghost use Rattle.vault_verdict.specs.Opened.{IsWrong, StandsSoundIn};
-ghost use Rattle.vault_verdict.specs.ReadAs.{IsFullIn};
 ghost use Rattle.vault_schema.specs.Holds.{HoldsIn};
 ghost use Rattle.vault_schema.specs.Schema.{newest_schema};
 ghost use Rattle.vault_schema.specs.Stands.{newest};
 ghost use Rattle.vault_schema.specs.Versions.{next_of, number_of, schema_of};
+ghost use Rattle.vault_verdict.specs.Opened.{StandsSoundIn};
+ghost use Rattle.vault_verdict.specs.ReadAs.{IsFullIn};
 
 use crate::movable::{judged, older_in};
 use sqlite::{Alter, Connection};
@@ -40,35 +31,14 @@ fn move_up<S: Alter>(
     conn: &mut Connection<S>,
     version: Version,
 ) -> Result<i64, OpenFault>
-    // the connection is outside a transaction
     requires idle { conn.old.in_transaction ≡ false }
-    // its statements may take any number of steps
     requires unlimited { conn.old.step_limit ≡ None }
     // Ok says the version after this one
     ensures next { IfOk result (λ n. n ≡ number_of (next_of version)) }
-    // the connection is outside a transaction
-    ensures idle { conn.new.in_transaction ≡ false }
-    // a disk that is honest after the call was so before it
-    ensures clean { KeepsDoubts S.Store conn.old conn.new }
-    // with Ok, on an honest disk, a vault that was held in the version is held in the next
-    ensures moved { HoldsMoved S.Store version (next_of version) conn.old conn.new result }
-    // with Ok, on an honest disk, a crash leaves a vault that was held in the version in the next, and in no
-    // other
-    ensures whole { LeavesMovedAlone S.Store version (next_of version) conn.old conn.new result }
-    // with Ok, on an honest disk, what had full rows in the version holds a sound vault in the next
-    ensures sound { HoldsSoundMoved S.Store version (next_of version) conn.old conn.new result }
+    ensures moves { Moves S.Store version (next_of version) conn.old conn.new result }
     // on an honest disk, a crash leaves a vault that was held in the version in it or in the next
     ensures crash { HasCleanDisk (state S.Store conn.new) → (V : Vault)
         → HoldsIn version V (state S.Store conn.old) → LeavesStep version V (state S.Store conn.new) }
-    // on an honest disk, a refusal by any number but 33 leaves a vault that was held in the version as it was
-    ensures stays { StaysIn S.Store version conn.old conn.new result }
-    // on an honest disk, after a refusal by any number but 33 in this version's schema, a crash leaves
-    // nothing new
-    ensures unwritten { WritesNothingIn S.Store version conn.old conn.new result }
-    // on an honest disk, 31 says the least rule that the rows break, where they are full and the version's
-    ensures damaged { RowsBreak S.Store conn.old conn.new result (IsBrokenWhereFull version) }
-    // on an honest disk, 30 says the other version that is told, where the schema is this version's
-    ensures wrong { TellsOther S.Store conn.old conn.new result (IsOtherIn version) }
 {
     let _settled = conn.is_autocommit();
     let entries = judged(alloc, conn, version)?;
@@ -84,23 +54,11 @@ fn climb_up<S: Alter>(
     conn: &mut Connection<S>,
     version: Version,
 ) -> Result<i64, OpenFault>
-    // the connection is outside a transaction
     requires idle { conn.old.in_transaction ≡ false }
-    // its statements may take any number of steps
     requires unlimited { conn.old.step_limit ≡ None }
     // Ok says the newest version
     ensures newest { IfOk result (λ n. n ≡ number_of newest) }
-    // the connection is outside a transaction
-    ensures idle { conn.new.in_transaction ≡ false }
-    // a disk that is honest after the call was so before it
-    ensures clean { KeepsDoubts S.Store conn.old conn.new }
-    // with Ok, on an honest disk, a vault that was held in the version is held in the newest one
-    ensures moved { HoldsMoved S.Store version newest conn.old conn.new result }
-    // with Ok, on an honest disk, a crash leaves a vault that was held in the version in the newest, and in
-    // no other
-    ensures whole { LeavesMovedAlone S.Store version newest conn.old conn.new result }
-    // with Ok, on an honest disk, what had full rows in the version holds a sound vault in the newest one
-    ensures sound { HoldsSoundMoved S.Store version newest conn.old conn.new result }
+    ensures moves { Moves S.Store version newest conn.old conn.new result }
     // with Ok, on an honest disk, what had full rows in the version stood for a sound vault in it
     ensures stood { HasCleanDisk (state S.Store conn.new)
         → OnOk result (IsFullIn version (state S.Store conn.old).now
@@ -108,15 +66,6 @@ fn climb_up<S: Alter>(
     // on an honest disk, a crash leaves a vault that was held in the version in some version
     ensures crash { HasCleanDisk (state S.Store conn.new) → (V : Vault)
         → HoldsIn version V (state S.Store conn.old) → LeavesSome V (state S.Store conn.new) }
-    // on an honest disk, a refusal by any number but 33 leaves a vault that was held in the version as it was
-    ensures stays { StaysIn S.Store version conn.old conn.new result }
-    // on an honest disk, after a refusal by any number but 33 in this version's schema, a crash leaves
-    // nothing new
-    ensures unwritten { WritesNothingIn S.Store version conn.old conn.new result }
-    // on an honest disk, 31 says the least rule that the rows break, where they are full and the version's
-    ensures damaged { RowsBreak S.Store conn.old conn.new result (IsBrokenWhereFull version) }
-    // on an honest disk, 30 says the other version that is told, where the schema is this version's
-    ensures wrong { TellsOther S.Store conn.old conn.new result (IsOtherIn version) }
 {
     let _settled = conn.is_autocommit();
     let entries = judged(alloc, conn, version)?;
@@ -128,38 +77,14 @@ fn climb_up<S: Alter>(
 
 /// Makes the newest schema in a store without any table; else checks the vault in it, and changes nothing.
 fn make_or_check<S: Alter>(alloc: Global, conn: &mut Connection<S>) -> Result<i64, OpenFault>
-    requires { conn.old.in_transaction ≡ false }
+    requires idle { conn.old.in_transaction ≡ false }
     // Ok says the newest version
     ensures newest { IfOk result (λ version. version ≡ number_of newest) }
-    // the connection is outside a transaction
-    ensures idle { conn.new.in_transaction ≡ false }
-    // a disk that is honest after the call was so before it
-    ensures clean { KeepsDoubts S.Store conn.old conn.new }
-    // with Ok, on an honest disk, a vault that was held is held still
-    ensures kept { KeepsHeld S.Store conn.old conn.new result }
-    // with Ok, on an honest disk, nothing changed in the newest schema
-    ensures same { IsUntouched S.Store newest conn.old conn.new result }
-    // with Ok, on an honest disk, where there was no table, a ready connection holds the empty vault
-    ensures blank { MakesBlank S.Store conn.old conn.new result }
-    // with Ok, on an honest disk, a database with full rows stood for a sound vault or had no table
-    ensures checked { ChecksFit S.Store conn.old conn.new result }
+    // the empty vault is made, or the vault that is there is checked
+    ensures does { MakesOrChecks S.Store conn.old conn.new result }
     // with Ok, the schema was the newest, or there was no table
     ensures known { OnOk result (¬ ((state S.Store conn.old).now.schema ≡ newest_schema)
         → (state S.Store conn.old).now.schema ≡ no_schema) }
-    // on an honest disk, a crash leaves the vault that was held; without a table, what was committed or the
-    // empty one
-    ensures left { LeavesAsFound S.Store conn.old conn.new }
-    // on an honest disk, after a refusal by any number but 33 a crash leaves nothing new
-    ensures unwritten { WritesNothing S.Store conn.old conn.new result }
-    // Where there is a table, nor does 33.
-    ensures unmade { WritesNothingWhereSome S.Store conn.old conn.new result }
-    // on an honest disk, 31 says the least rule that the rows break, where they are full
-    ensures damaged { RowsBreak S.Store conn.old conn.new result IsLeastWhereFull }
-    // on an honest disk, 30 says another version that the database tells, or 0 where a vault's names are
-    // mixed
-    ensures wrong { TellsOther S.Store conn.old conn.new result IsWrong }
-    // on an honest disk, neither 30 nor 31 comes to a sound vault or to a database without a table
-    ensures spared { SparesFit S.Store conn.old conn.new result IsFit }
 {
     match make_schema(conn) {
         Ok(()) => Ok(NEWEST.number()),
@@ -186,9 +111,7 @@ fn make_or_check<S: Alter>(alloc: Global, conn: &mut Connection<S>) -> Result<i6
 ///
 /// In a history of the store (`vault_recover::laws`) it is the step `Migrated`.
 pub fn migrate<S: Alter>(alloc: Global, conn: &mut Connection<S>) -> Result<i64, OpenFault>
-    // the connection is outside a transaction
     requires idle { conn.old.in_transaction ≡ false }
-    // its statements may take any number of steps
     requires unlimited { conn.old.step_limit ≡ None }
     // in the schema of a version, Ok says the next one
     ensures next { IfOk result (λ n. (v : Version) → (state S.Store conn.old).now.schema ≡ schema_of v
@@ -215,9 +138,7 @@ pub fn migrate<S: Alter>(alloc: Global, conn: &mut Connection<S>) -> Result<i64,
 ///
 /// In a history of the store (`vault_recover::laws`) it is the step `Migrated`, however many it takes.
 pub fn migrate_all<S: Alter>(alloc: Global, conn: &mut Connection<S>) -> Result<i64, OpenFault>
-    // the connection is outside a transaction
     requires idle { conn.old.in_transaction ≡ false }
-    // its statements may take any number of steps
     requires unlimited { conn.old.step_limit ≡ None }
     // Ok says the newest version
     ensures newest { IfOk result (λ n. n ≡ number_of newest) }

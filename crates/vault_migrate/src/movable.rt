@@ -1,5 +1,5 @@
 //! A vault in an older schema is checked whole before it moves.
-ghost use Rattle.std.specs.Prelude.{◌≡◌, IfErr, IfNone, IfOk, IfSome, OnOk};
+ghost use Rattle.std.specs.Prelude.{◌≡◌, IfNone, IfOk, IfSome, OnOk};
 ghost use Rattle.sqlite.specs.Effect.{IsDatabase};
 ghost use Rattle.sqlite.specs.Held.{state};
 ghost use Rattle.sqlite.specs.State.{HasCleanDisk};
@@ -55,22 +55,16 @@ pub(crate) fn judged<S: Alter>(
     // with Ok, on an honest disk, a vault that was held in the version is held in it still
     ensures held { HasCleanDisk (state S.Store conn.new) → OnOk result ((V : Vault)
         → HoldsIn version V (state S.Store conn.old) → HoldsIn version V (state S.Store conn.new)) }
-    // with Ok, on an honest disk, what has full rows in the version is a sound database
-    ensures live { HasCleanDisk (state S.Store conn.new)
-        → OnOk result (IsFullIn version (state S.Store conn.old).now
-        → IsDatabase (state S.Store conn.old).now) }
-    // with Ok, on an honest disk, what had full rows in the version stood for a sound vault in it
+    // with Ok, on an honest disk, full rows of the version are a sound database and stand for a sound vault
     ensures sound { HasCleanDisk (state S.Store conn.new)
         → OnOk result (IsFullIn version (state S.Store conn.old).now
-        → StandsSoundIn version (state S.Store conn.old).now) }
+        → IsDatabase (state S.Store conn.old).now × StandsSoundIn version (state S.Store conn.old).now) }
     // with Ok, on an honest disk, nothing changed in the schema of the version
     ensures kept { IsUntouched S.Store version conn.old conn.new result }
     // on an honest disk, 31 says the least rule that the rows break, where they are full and the version's
-    ensures damaged { RowsBreak S.Store conn.old conn.new result
-        (IsBrokenWhereFull version) }
+    ensures damaged { RowsBreak S.Store conn.old conn.new result (IsBrokenWhereFull version) }
     // on an honest disk, 30 says the other version that is told, where the schema is this version's
-    ensures versioned { TellsOther S.Store conn.old conn.new result
-        (IsOtherIn version) }
+    ensures versioned { TellsOther S.Store conn.old conn.new result (IsOtherIn version) }
     // in the version's schema, on an honest disk, a crash leaves nothing new; no doubt goes away, and no
     // transaction begins
     ensures nothing_new { IsStill S.Store version conn.old conn.new }

@@ -1,18 +1,12 @@
 //! A vault is opened from a file.
-ghost use Rattle.std.specs.Prelude.{◌≡◌, ◌≤◌, pos, false, None, Err, IfOk, IfErr, IsErrAnd};
+ghost use Rattle.std.specs.Prelude.{◌≡◌, pos, false, None, Err, IfOk, IfErr, IsErrAnd};
 ghost use Rattle.sqlite.specs.Held.{state};
-ghost use Rattle.sqlite.specs.State.{HasCleanDisk};
-ghost use Rattle.sqlite.specs.View.{doubt};
-ghost use Rattle.vault_verdict.specs.Names.{IsForeign};
-ghost use Rattle.vault_verdict.specs.Opened.{IsFit, IsNoDamage, IsWrong};
-ghost use Rattle.vault_verdict.specs.Opened.{LeavesFound, Opens};
-ghost use Rattle.sql_tables.specs.Transactions.{KeepsDoubts};
-ghost use Rattle.vault_verdict.specs.Refusals.{IsLeastWhereFull, RowsBreak};
-ghost use Rattle.vault_verdict.specs.Refusals.{IsStillWhereSome, LeavesAsFound, LeavesVersionSeen, OpensAs};
-ghost use Rattle.vault_verdict.specs.Refusals.{Refuses, SparesFit, TellsOther, TellsUnread, WhereMixed};
-ghost use Rattle.vault_verdict.specs.Refusals.{WhereStrange};
 ghost use Rattle.vault_sql.specs.Held.{AreFresh};
 ghost use Rattle.vault_store.specs.Applied.{is_broken, tables_of};
+ghost use Rattle.vault_verdict.specs.Names.{IsForeign};
+ghost use Rattle.vault_verdict.specs.Opened.{IsNoDamage};
+ghost use Rattle.vault_verdict.specs.Refusals.{IsStillWhereSome, LeavesIdle, OpensAs, OpensFile, Refuses};
+ghost use Rattle.vault_verdict.specs.Refusals.{RefusesForeign, WhereMixed, WhereStrange};
 
 use sqlite::{Alter, Connection};
 use std::alloc::Global;
@@ -26,45 +20,20 @@ use vault_verdict::version::version_or;
 
 /// Makes the tables of the empty vault where there is no table, and else checks those that are there.
 fn ready<S: Alter>(alloc: Global, conn: &mut Connection<S>) -> Result<(), OpenFault>
-    // the connection is outside a transaction
     requires idle { conn.old.in_transaction ≡ false }
-    // its statements may take any number of steps
     requires unlimited { conn.old.step_limit ≡ None }
     // with Ok, on an honest disk, a sound vault is held where tables have full rows, and the empty one where
     // there are none
     ensures opens { OpensAs S.Store conn.old conn.new result }
-    // on an honest disk, 31 says the least rule that the rows break, where they are full
-    ensures damaged { RowsBreak S.Store conn.old conn.new result IsLeastWhereFull }
-    // on an honest disk, 30 says another version that the database tells, or 0 where a vault's names are
-    // mixed
-    ensures wrong { TellsOther S.Store conn.old conn.new result IsWrong }
-    // on an honest disk, 33 comes to a vault's tables with full rows only where one isn't read or a rowid
-    // comes twice
-    ensures unread { TellsUnread S.Store conn.old conn.new result }
-    // on an honest disk, neither 30 nor 31 comes to a sound vault or to a database without a table
-    ensures spared { SparesFit S.Store conn.old conn.new result IsFit }
-    // on an honest disk, a crash leaves the vault that was held; without a table, what was committed or the
-    // empty one
-    ensures left { LeavesAsFound S.Store conn.old conn.new }
-    // a foreign schema without a version, in which a vault's names are mixed, gives 30 with 0, and nothing
-    // changes
-    ensures mixed { WhereMixed (state S.Store conn.old).now
-        ((result ≡ Err (OpenFault.WrongSchema (pos 0))) × (conn.new ≡ conn.old)) }
-    // a foreign schema without a version, in which a vault's names aren't mixed, gives 33, and nothing
-    // changes
-    ensures strange { WhereStrange (state S.Store conn.old).now
-        ((result ≡ Err OpenFault.Store) × (conn.new ≡ conn.old)) }
-    // a schema that is neither the newest nor empty is refused, and not by 31
-    ensures foreign { IsForeign (state S.Store conn.old).now.schema → IsErrAnd result IsNoDamage }
-    // on an honest disk, after 30 and 31 the connection sees what it saw, where the schema has a version
-    ensures unchanged { LeavesVersionSeen S.Store conn.old conn.new result }
+    // a refusal says no more than is so of the database
+    ensures refuses { IfErr result (Refuses S.Store conn.old conn.new) }
+    // a schema that is neither the newest nor empty is refused
+    ensures foreign { RefusesForeign S.Store conn.old conn.new result }
     // where there is a table, no transaction begins, and with a version, on an honest disk, a crash leaves
     // nothing new
     ensures nothing_new { IsStillWhereSome S.Store conn.old conn.new }
-    // a disk that is honest after the call was so before it
-    ensures clean { KeepsDoubts S.Store conn.old conn.new }
-    // the connection is outside a transaction
-    ensures idle { conn.new.in_transaction ≡ false }
+    // in both cases a crash leaves what was found, and the connection is outside a transaction
+    ensures leaves { LeavesIdle S.Store conn.old conn.new }
 {
     let _settled = conn.is_autocommit();
     match holder_in(conn.schema()) {
@@ -96,34 +65,23 @@ pub fn open<S: Alter>(
     alloc: Global,
     conn: Connection<S>,
 ) -> Result<Vault<SqlTables<S>>, (OpenFault, Connection<S>)>
-    // the connection is outside a transaction
     requires idle { conn.in_transaction ≡ false }
-    // its statements may take any number of steps
     requires unlimited { conn.step_limit ≡ None }
     // with Ok, the vault isn't broken, and its tables haven't failed, have no place and remember nothing
     ensures fresh { IfOk result (λ vault. (is_broken vault ≡ false) × AreFresh (tables_of vault)) }
     // with Ok, on an honest disk, a sound vault is held where tables have full rows, and the empty one where
-    // there are none
-    ensures opens { IfOk result (λ vault. HasCleanDisk (state S.Store (tables_of vault).conn)
-        → Opens (state S.Store conn) (state S.Store (tables_of vault).conn)) }
+    // there are none; a crash leaves what was found
+    ensures opens { IfOk result (λ vault. OpensFile S.Store conn (tables_of vault).conn) }
     // the refusal says no more than is so of the database, and the connection goes on as it was
     ensures refused { IfErr result (λ e. Refuses S.Store conn e.1 e.0) }
-    // with Ok, on an honest disk, a crash leaves the vault that was held; without a table, what was committed
-    // or the empty one
-    ensures left { IfOk result (λ vault. HasCleanDisk (state S.Store (tables_of vault).conn)
-        → LeavesFound (state S.Store conn) (state S.Store (tables_of vault).conn)) }
     // a foreign schema without a version, in which a vault's names are mixed, gives 30 with 0 and the same
     // connection
-    ensures mixed { WhereMixed (state S.Store conn).now
-        (result ≡ Err (OpenFault.WrongSchema (pos 0), conn)) }
+    ensures mixed { WhereMixed (state S.Store conn).now (result ≡ Err (OpenFault.WrongSchema (pos 0), conn)) }
     // a foreign schema without a version, in which a vault's names aren't mixed, gives 33 and the same
     // connection
     ensures strange { WhereStrange (state S.Store conn).now (result ≡ Err (OpenFault.Store, conn)) }
     // a schema that is neither the newest nor empty is refused, and not by 31
     ensures foreign { IsForeign (state S.Store conn).now.schema → IsErrAnd result (λ e. IsNoDamage e.0) }
-    // with Ok, a disk that is honest after the call was so before it
-    ensures clean { IfOk result (λ vault. doubt (state S.Store conn).is_clean
-        ≤ doubt (state S.Store (tables_of vault).conn).is_clean) }
 {
     let mut conn = conn;
     match ready(alloc, &mut conn) {

@@ -32,7 +32,7 @@ use Rattle.vault_listen.specs.Live.{AreGiven, IsPairOf, Turns}
 use Rattle.vault_pan.specs.CardText.{digits_of}
 use Rattle.vault_routes.specs.Wanted.{Wanted}
 use Rattle.vault_jobs.specs.Doing.{BatchEnds, along}
-use Rattle.vault_jobs.specs.Streams.{Streams}
+use Rattle.vault_jobs.specs.Streams.{Streams, seen_as}
 use Rattle.vault_jobs.specs.declared.stop.Stop.{Stop}
 use Rattle.vault_jobs.specs.declared.stop.Stop.TheVariants as stop
 use Rattle.vault_jobs.specs.declared.task.Outcome.{Outcome}
@@ -247,7 +247,7 @@ module _ (tells : Turns) (who : Asker) (now : Option ℕ) (digits : Option (List
         q.answered.asked (all_went q.rows it.0) it.1.1
 
   pub batch_works : (r : Result Outcome Stop) (unread unsent : Type 0) → (unsent → IsQuiet s)
-      → BatchEnds tells who now digits w r unread unsent s → Goal
+      → BatchEnds (AreGiven tells now digits) who w r (seen_as unread unsent s) → Goal
   batch_works (Ok outcome.Done) unread unsent quiet (calm, counts, none, end, (pairs, few, given, q)) =
       whole pairs given counts q
   batch_works (Ok (outcome.Refused n)) unread unsent quiet h = absurd h

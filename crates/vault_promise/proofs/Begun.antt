@@ -1,5 +1,5 @@
 -- What a service answered that may follow lists.
-use Rattle.std.proofs.Common.{◌≡◌, ◌∙◌, ℕ, ◌+◌, List, [], ◌++◌, Option, Some, None, Bool}
+use Rattle.std.proofs.Common.{◌≡◌, ◌∙◌, ℕ, ◌+◌, List, [], ◌++◌, Option, Some, None}
 use Rattle.std.proofs.Common.{Result, Ok, Err, inl, inr, refl, sym, ap, subst, ◌⊎◌}
 use Rattle.std.specs.Prelude.{IfSome, take}
 use Rattle.vault_core.proofs.StaysSound.{stays_sound}
@@ -16,10 +16,10 @@ use Rattle.vault_store.specs.Listed.{merchant_rows}
 use Rattle.vault_store.specs.declared.vault.Fault.TheVariants.{Memory, Store, Reopen}
 use Rattle.vault_changes.proofs.GivenRights.{run_more}
 use Rattle.vault_live.specs.Kinds.{merchants_changes, rights_changes}
-use Rattle.vault_jobs.specs.Doing.{BeginEnds, ListedServeEnds, behind}
+use Rattle.vault_jobs.specs.Doing.{BeginEnds, ListedServeEnds, behind, serving_of}
 use Rattle.vault_jobs.specs.Lists.{asked_of, begin_of, first_of}
 use Rattle.vault_jobs.specs.Outside.{Outside}
-use Rattle.vault_jobs.specs.Streams.{Streams}
+use Rattle.vault_jobs.specs.Streams.{Streams, output_with}
 use Rattle.vault_jobs.specs.declared.lists.ListFile.{ListFile}
 use Rattle.vault_jobs.specs.declared.lists.Lists.{Lists}
 use Rattle.vault_jobs.specs.declared.stop.Stop.{Stop}
@@ -76,9 +76,9 @@ module _ (tells : Turns) (w : Passage) (V : Content) (b : IsBefore w V) (sound :
     (unsent : Type 0) (F : Type 0) where
   -- what its lists ask for isn't all done
   begin_works : (port connections : ℕ) (lists : Lists) → AllProper (begin_of lists V) → s.turns ≡ []
-      → (broken : Bool) (r : Result Ended Stop) → (F → r ≡ Ok outcome.Done)
-      → BeginEnds lists w broken r unsent → Works tells w V (task.Serve port connections lists) F s
-  begin_works port connections lists proper none broken r fin h = by_end r fin h
+      → (r : Result Ended Stop) → (F → r ≡ Ok outcome.Done)
+      → BeginEnds lists w r unsent → Works tells w V (task.Serve port connections lists) F s
+  begin_works port connections lists proper none r fin h = by_end r fin h
     where
       t : Task
       t = task.Serve port connections lists
@@ -86,7 +86,7 @@ module _ (tells : Turns) (w : Passage) (V : Content) (b : IsBefore w V) (sound :
       cs : List Command
       cs = begin_of lists V
 
-      by_end : (r : Result Ended Stop) → (F → r ≡ Ok outcome.Done) → BeginEnds lists w broken r unsent
+      by_end : (r : Result Ended Stop) → (F → r ≡ Ok outcome.Done) → BeginEnds lists w r unsent
           → Works tells w V t F s
       by_end (Ok outcome.Done) fin h = absurd h
       by_end (Ok (outcome.Refused n)) fin (silent, h) =
@@ -150,15 +150,16 @@ module _ (tells : Turns) (w : Passage) (V : Content) (b : IsBefore w V) (sound :
 -- a service that may follow lists
 pub listed_serve_works : (at : Outside) (w : Passage) (V : Content) (b : IsBefore w V) (sound : Sound V)
     (s : Streams) (unsent : Type 0) (quiet : unsent → IsQuiet s) (F : Type 0) (port connections : ℕ)
-    (lists : Lists) → AreValues (task.Serve port connections lists) → (broken : Bool)
+    (lists : Lists) → AreValues (task.Serve port connections lists) →
     (r : Result Ended Stop) → (F → r ≡ Ok outcome.Done)
-    → ListedServeEnds at port connections lists w broken r unsent s.sent_old s.sent_new s.writer s.turns
+    → ListedServeEnds (serving_of at.tells (asked_of at lists) port connections) lists w r
+    (output_with unsent s.sent_old s.sent_new s.writer) s.turns
     → Works at.tells w V (task.Serve port connections lists) F s
-listed_serve_works at w V b sound s unsent quiet F port connections lists values broken r fin
+listed_serve_works at w V b sound s unsent quiet F port connections lists values r fin
     (inl (some, none, h)) =
     begin_works at.tells w V b sound s unsent F port connections lists
-    (begin_proper lists V sound values.0 values.1) none broken r fin h
-listed_serve_works at w V b sound s unsent quiet F port connections lists values broken r fin
+    (begin_proper lists V sound values.0 values.1) none r fin h
+listed_serve_works at w V b sound s unsent quiet F port connections lists values r fin
     (inr (of, h, unfailed)) =
     let cs : List Command = begin_of lists V in
     let inner = serve_works at.tells (asked_of at lists) (asked_of (seen at.tells) lists)

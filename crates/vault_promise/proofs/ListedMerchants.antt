@@ -1,5 +1,5 @@
 -- What a task answered that sets the merchants of a list.
-use Rattle.std.proofs.Common.{◌≡◌, ℕ, Bool, true, false, cond, not, List, [], ◌∷◌, Result, Ok, inl, inr, sym}
+use Rattle.std.proofs.Common.{◌≡◌, ℕ, true, false, cond, not, List, [], ◌∷◌, Result, Ok, inl, inr, sym}
 use Rattle.std.proofs.Common.{ap, subst, refl, length, ◌∙◌}
 use Rattle.std.specs.Global.{Vec}
 use Rattle.std.specs.Prelude.{take}
@@ -12,7 +12,7 @@ use Rattle.vault_merchants.specs.Listed.{Wanted}
 use Rattle.vault_changes.specs.Settings.{Named, missing_merchants, settings_at, stands_in, wanted_at}
 use Rattle.vault_listen.specs.Live.{Turns}
 use Rattle.vault_jobs.specs.Doing.{SetEnds}
-use Rattle.vault_jobs.specs.Streams.{Streams}
+use Rattle.vault_jobs.specs.Streams.{Streams, output_with}
 use Rattle.vault_jobs.specs.Tasks.{merchants_line}
 use Rattle.vault_jobs.specs.declared.stop.Stop.{Stop}
 use Rattle.vault_jobs.specs.declared.task.Outcome.{Outcome as Ended}
@@ -36,16 +36,16 @@ some_set now held (row ∷ rows) proper =
 
 module _ (tells : Turns) (w : Passage) (V : Content) (b : IsBefore w V) (sound : Sound V) (s : Streams)
     (unsent : Type 0) (quiet : unsent → IsQuiet s) (F : Type 0) where
-  pub set_works : (rows : Vec Wanted) (now : ℕ) → AllProper (wanted_at now rows.items) → (broken : Bool)
+  pub set_works : (rows : Vec Wanted) (now : ℕ) → AllProper (wanted_at now rows.items) →
       (r : Result Ended Stop) → (F → r ≡ Ok outcome.Done)
-      → SetEnds now rows.items w broken r unsent s.sent_old s.sent_new s.writer
+      → SetEnds now rows.items w r (output_with unsent s.sent_old s.sent_new s.writer)
       → Works tells w V (task.SetMerchants rows now) F s
-  set_works rows now proper broken r fin (inl (cs, of, h)) =
+  set_works rows now proper r fin (inl (cs, of, h)) =
       let is = of V b in
       commands_works tells w V b s unsent quiet F (task.SetMerchants rows now) cs (merchants_line (length cs))
       (subst AllProper (sym is) (some_set now (merchant_rows V) rows.items proper))
       (λ done. inr (is, done)) (λ k calm. inl (calm, (k, ap (take k) is)))
-      (λ ds x first. (first.0, first.1 ∙ ap (take first.0) is)) (λ done. (is, done)) broken r fin h
-  set_works rows now proper broken r fin (inr (f, is, silent, h)) =
+      (λ ds x first. (first.0, first.1 ∙ ap (take first.0) is)) (λ done. (is, done)) r fin h
+  set_works rows now proper r fin (inr (f, is, silent, h)) =
       unread_works tells w V b sound s unsent quiet F (task.SetMerchants rows now)
-      (inl (quiet silent, (0, refl))) (λ d. cc (fin d, is)) broken f h
+      (inl (quiet silent, (0, refl))) (λ d. cc (fin d, is)) f h

@@ -16,13 +16,11 @@ use Rattle.vault_schema.specs.Schema.{newest_schema}
 use Rattle.vault_verdict.specs.Opened.{HoldsSound, Opens, StandsSound}
 use Rattle.vault_verdict.specs.Reading.{IsFull}
 use Rattle.vault_engine.specs.Passing.{Passage}
-use Rattle.vault_listen.specs.Live.{Turns}
-use Rattle.vault_live.specs.Following.{Looks}
-use Rattle.vault_jobs.specs.Streams.{Known, Streams, streams, with_turns}
+use Rattle.vault_jobs.specs.Streams.{Known, Streams, seen_as, streams, with_turns}
 use Rattle.vault_jobs.specs.declared.task.Task.{Task}
 use Rattle.vault_app.specs.Files.{DoesOnFile, WorksOn}
 use Rattle.vault_app.specs.Jobs.{Does as DoesWords, DoesPlan}
-use Rattle.vault_app.specs.World.{World, anything, outside_in, world_of}
+use Rattle.vault_app.specs.World.{World, anything, outside_in}
 use Rattle.vault_app.specs.declared.ending.Ending.{Ending}
 use Rattle.vault_app.specs.declared.ending.Ending.TheVariants as ending
 use Rattle.vault_app.specs.declared.note.Note.TheVariants as note
@@ -61,7 +59,7 @@ whose old new opens (inr schema) = inr (schema, stands_opened old new opens sche
 module _ {D : Type 0} {g : Ghosts D} (world : World) (image : Image) (left : FileStore D g)
     (clean : IsClean (files.view left)) where
   -- a file on which a task worked
-  worked : (Done : Passage → Bool → Type 0) (path : List ℕ) → world.holds path image
+  worked : (Done : Passage → Type 0) (path : List ℕ) → world.holds path image
       → WorksOn (world.holds path) left Done → HoldSound image
   worked Done path at on =
       let opens : OpensFrom image on.opened = on.found image at in
@@ -75,7 +73,8 @@ module _ {D : Type 0} {g : Ghosts D} (world : World) (image : Image) (left : Fil
 
   by_ending : (end : Ending) → ¬ (IsNotOpened end) → (path : List ℕ) → world.holds path image → (t : Task)
       (unread unsent : Type 0) (s : Streams)
-      → DoesOnFile (outside_in world) (world.holds path) left t end unread unsent s → HoldSound image
+      → DoesOnFile (outside_in world) (world.holds path) left t end (seen_as unread unsent s) → HoldSound
+      image
   by_ending ending.Done opened path at t unread unsent s h = worked _ path at h
   by_ending (ending.Noted note.Log) opened path at t unread unsent s h = absurd h
   by_ending (ending.Noted note.Made) opened path at t unread unsent s h = absurd h
@@ -93,7 +92,7 @@ module _ {D : Type 0} {g : Ghosts D} (world : World) (image : Image) (left : Fil
 
   by_plan : (words : List Text) → AsksTask words → (job : Job) → IsAsked program_app words job → (p : Plan)
       → Fits all_moments job p → (end : Ending) → ¬ (IsNotOpened end) → (unread unsent : Type 0) (s : Streams)
-      → DoesPlan world (Some left) p end unread unsent s → IsAt world image p → HoldSound image
+      → DoesPlan world (Some left) p end (seen_as unread unsent s) → IsAt world image p → HoldSound image
   by_plan words asks job asked (plan.Trial t) fit end opened unread unsent s h at =
       let none = h.0 in absurd (cc)
   by_plan words asks job asked (plan.Check path) fit end opened unread unsent s h at =
@@ -104,7 +103,8 @@ module _ {D : Type 0} {g : Ghosts D} (world : World) (image : Image) (left : Fil
       by_ending end opened path.now at t unread unsent s h
 
   of_words : (words : List Text) → AsksTask words → (end : Ending) → ¬ (IsNotOpened end)
-      → (unread unsent : Type 0) (s : Streams) → DoesWords world (Some left) words end unread unsent s
+      → (unread unsent : Type 0) (s : Streams) → DoesWords world (Some left) words end
+      (seen_as unread unsent s)
       → IsFound words (λ path. world.holds path image) → HoldSound image
   unfolding all_moments
   of_words words asks end opened unread unsent s (inl (job, asked, inl (p, is, proper, h))) at =
@@ -114,14 +114,10 @@ module _ {D : Type 0} {g : Ghosts D} (world : World) (image : Image) (left : Fil
       absurd (cc)
   of_words words asks end opened unread unsent s (inr (none, without)) at = absurd (cc)
 
-pub files_open_sound : {D R W E K X P : Type 0} (g : Ghosts D) (remaining : R → Known) (contents : W → Known)
-    (said : E → Known) (tells : K → Turns) (looks : X → List ℕ → Looks)
-    (holds : P → List ℕ → Image → Type 0) (lacks refuses : P → List ℕ → Type 0)
-    (says : P → List ℕ → List ℕ → Type 0) (logs : P → List ℕ → Bool → Type 0)
-    → FilesOpenSound g remaining contents said tells looks holds lacks refuses says logs
-files_open_sound g remaining contents said tells looks holds lacks refuses says logs image left words status
-    time desk paths turns i i' o told o' e e' it at asks opened clean =
-    of_words (world_of (tells time) (looks desk) (holds paths) (lacks paths) (refuses paths) (says paths)
-    (logs paths))
-    image left clean words asks it.ending opened (i' ≡ i) (told ≡ o)
+pub files_open_sound : {D R W E K X P : Type 0} (g : Ghosts D) (remaining : R → Known)
+    (contents : W → Known) (said : E → Known) (world_of : K → X → P → World)
+    → FilesOpenSound g remaining contents said world_of
+files_open_sound g remaining contents said world_of time desk paths image left words status turns
+    i i' o told o' e e' it at asks opened clean =
+    of_words (world_of time desk paths) image left clean words asks it.ending opened (i' ≡ i) (told ≡ o)
     (with_turns (streams remaining i i' contents o told) turns) it.does at

@@ -14,10 +14,10 @@ use Rattle.vault_engine.specs.Asking.{Asked, commands_in, commands_of, texts, va
 use Rattle.vault_wire.specs.Parts.{Parts}
 use Rattle.vault_wire.specs.declared.fault.WireFault.{WireFault}
 use Rattle.vault_engine.specs.Passing.{IsBefore, Passage}
-use Rattle.vault_listen.specs.Live.{Turns}
+use Rattle.vault_listen.specs.Live.{AreGiven, Turns}
 use Rattle.vault_routes.specs.Wanted.{Wanted}
 use Rattle.vault_jobs.specs.Doing.{PipeEnds}
-use Rattle.vault_jobs.specs.Streams.{Streams}
+use Rattle.vault_jobs.specs.Streams.{Streams, seen_as}
 use Rattle.vault_jobs.specs.declared.stop.Stop.{Stop}
 use Rattle.vault_jobs.specs.declared.task.Outcome.{Outcome}
 use Rattle.vault_jobs.specs.declared.task.Task.TheVariants as task
@@ -111,7 +111,8 @@ module _ (tells : Turns) (now : Option ℕ) (digits : Option (List ℕ)) (w : Pa
 
   pub pipe_works : (r : Result Outcome Stop) (unread unsent : Type 0)
       → (unread → Consumes s.left_old s.left_new []) → (unsent → IsQuiet s)
-      → PipeEnds tells now digits w r unread unsent s → Works tells w V (task.Pipe now digits) F s
+      → PipeEnds (AreGiven tells now digits) w r (seen_as unread unsent s) → Works tells w V
+      (task.Pipe now digits) F s
   pipe_works r unread unsent still quiet h =
       let a = answers_of tells now digits w s r unread unsent still quiet h in
       answered a.exchanges a.undecided a.heard a.same a.few a.proper (a.left V b) (a.went V b)

@@ -23,11 +23,9 @@ use Rattle.vault_schema.proofs.Newest.{ours_in_newest}
 use Rattle.vault_schema.specs.Stands.{newest}
 use Rattle.vault_recover.specs.Crashed.{AreBlank, KeepsEither, KeepsSuch, MayFind}
 use Rattle.vault_schema.specs.Holds.{AreOurs, Holds}
-use Rattle.vault_listen.specs.Live.{Turns}
-use Rattle.vault_live.specs.Following.{Looks}
 use Rattle.vault_jobs.specs.Doing.{Does}
 use Rattle.vault_jobs.specs.Outside.{Outside}
-use Rattle.vault_jobs.specs.Streams.{Known, Streams, streams, with_turns}
+use Rattle.vault_jobs.specs.Streams.{Known, Streams, output_with, seen_as, streams, with_turns}
 use Rattle.vault_jobs.specs.declared.note.Note.{Note as TaskNote}
 use Rattle.vault_jobs.specs.declared.stop.Stop.{Stop}
 use Rattle.vault_jobs.specs.declared.task.Outcome.{Outcome}
@@ -44,8 +42,8 @@ use Rattle.vault_app.specs.Plans.{IsProperPlan, IsTaskOf, saying}
 use Rattle.vault_app.specs.Asked.{AsksFor, schema_line, sound_line}
 use Rattle.vault_app.specs.Ending.{IsDone}
 use Rattle.vault_app.specs.Values.{AreValues}
-use Rattle.vault_app.specs.World.{World, outside_in, world_of}
-use Rattle.vault_file.specs.Moved.{MovesAs, StaysOld}
+use Rattle.vault_app.specs.World.{World, outside_in}
+use Rattle.vault_file.specs.Moved.{MovesAs, StaysUnmoved}
 use Rattle.vault_app.specs.Commands.Check.{TellsSizes}
 use Rattle.vault_app.specs.Commands.Migrate.{TellsMoved}
 use Rattle.vault_file.specs.declared.fault.NotOpened.{NotOpened as FileFault}
@@ -79,30 +77,30 @@ IsStill s = Consumes s.left_old s.left_new []
 
 -- what a task does, by its clause
 works : (at : Outside) (t : Task) (w : Passage) (V : Content) (b : IsBefore w V) → Sound V → (s : Streams)
-    (broken : Bool) (r : Result Outcome Stop) (it : Option TaskNote) (unread unsent : Type 0)
+    (r : Result Outcome Stop) (it : Option TaskNote) (unread unsent : Type 0)
     → (unread → IsStill s) → (unsent → IsQuiet s) → AreValues t
-    → (F : Type 0) → (F → r ≡ Ok outcome.Done) → Does at t w broken r it unread unsent s
+    → (F : Type 0) → (F → r ≡ Ok outcome.Done) → Does at t w r it (seen_as unread unsent s)
     → Works at.tells w V t F s
-works at (task.Change c) w V b sound s broken r it unread unsent still quiet values F fin h =
-    changed_works at.tells w V b sound s unsent quiet F c values.0 values.1 broken r fin h.works
-works at (task.Give rights now) w V b sound s broken r it unread unsent still quiet values F fin h =
-    give_works at.tells w V b s unsent quiet F rights now values broken r fin h.works
-works at (task.Settle rights now) w V b sound s broken r it unread unsent still quiet values F fin h =
-    settle_works at.tells w V b sound s unsent quiet F rights now values.0 values.1 broken r fin h.works
-works at (task.SetMerchants rows now) w V b sound s broken r it unread unsent still quiet values F fin h =
-    set_works at.tells w V b sound s unsent quiet F rows now values broken r fin h.works
-works at (task.Sweep who now giver) w V b sound s broken r it unread unsent still quiet values F fin h =
-    timed_sweep_works who now values.0 values.1 values.2 at.tells w V b sound s unsent quiet F giver broken
+works at (task.Change c) w V b sound s r it unread unsent still quiet values F fin h =
+    changed_works at.tells w V b sound s unsent quiet F c values.0 values.1 r fin h.works
+works at (task.Give rights now) w V b sound s r it unread unsent still quiet values F fin h =
+    give_works at.tells w V b s unsent quiet F rights now values r fin h.works
+works at (task.Settle rights now) w V b sound s r it unread unsent still quiet values F fin h =
+    settle_works at.tells w V b sound s unsent quiet F rights now values.0 values.1 r fin h.works
+works at (task.SetMerchants rows now) w V b sound s r it unread unsent still quiet values F fin h =
+    set_works at.tells w V b sound s unsent quiet F rows now values r fin h.works
+works at (task.Sweep who now giver) w V b sound s r it unread unsent still quiet values F fin h =
+    timed_sweep_works who now values.0 values.1 values.2 at.tells w V b sound s unsent quiet F giver
     r fin
     h.works
-works at (task.Batch who now digits) w V b sound s broken r it unread unsent still quiet values F fin h =
+works at (task.Batch who now digits) w V b sound s r it unread unsent still quiet values F fin h =
     batch_works at.tells who now digits values.0 values.1 w V b s F r unread unsent quiet h.works
-works at (task.Pipe now digits) w V b sound s broken r it unread unsent still quiet values F fin h =
+works at (task.Pipe now digits) w V b sound s r it unread unsent still quiet values F fin h =
     pipe_works at.tells now digits w V b s F r unread unsent still quiet h.works
-works at (task.Serve port most lists) w V b sound s broken r it unread unsent still quiet values F fin h =
-    listed_serve_works at w V b sound s unsent quiet F port most lists values broken r fin h.works
-works at (task.Show shown) w V b sound s broken r it unread unsent still quiet values F fin h =
-    show_works at.tells w V b sound s unsent quiet F shown broken r fin h.works
+works at (task.Serve port most lists) w V b sound s r it unread unsent still quiet values F fin h =
+    listed_serve_works at w V b sound s unsent quiet F port most lists values r fin h.works
+works at (task.Show shown) w V b sound s r it unread unsent still quiet values F fin h =
+    show_works at.tells w V b sound s unsent quiet F shown r fin h.works
 
 -- who finds no more finds what was found
 finds_less : (image next : Image) (Are : Trees → Type 0)
@@ -232,20 +230,20 @@ module _ {D : Type 0} {g : Ghosts D} (world : World) (image next : Image) (momen
 
   -- a refused move spares it in whatever schema
   old_spared : (left : FileStore D g) → Leaves image (Some left) next → (why : FileFault)
-      → StaysOld image left why → (V : Content) (c : Option Command) → Sound V → IfSome c IsProper
+      → StaysUnmoved image left why → (V : Content) (c : Option Command) → Sound V → IfSome c IsProper
       → AreOf image V c → IsNoVerdict why
   old_spared left may why stays V c sound proper (inl keeps) =
-      new_spared image why (stays.spares may.0) V c sound proper (inl keeps)
+      new_spared image why (stays.refuses may.0).spared V c sound proper (inl keeps)
   old_spared left may why stays V c sound proper (inr (inl (none, some))) =
-      stays.never_some may.0 V sound some
+      (stays.refuses may.0).in_some V sound some
   old_spared left may why stays V c sound proper (inr (inr blank)) =
-      new_spared image why (stays.spares may.0) V c sound proper (inr blank)
+      new_spared image why (stays.refuses may.0).spared V c sound proper (inr blank)
 
   spared_move : (left : FileStore D g) → Leaves image (Some left) next → (it : Run) (why : FileFault)
-      → it.ending ≡ ending.NotOpened why → it.begins ≡ image → StaysOld image left why → (V : Content)
+      → it.ending ≡ ending.NotOpened why → it.begins ≡ image → StaysUnmoved image left why → (V : Content)
       (c : Option Command) → Sound V → IfSome c IsProper → Spared V c it
   spared_move left may it why is same stays V c sound proper = record {
-    newest = λ new. spared_by it why is (new_spared image why (stays.spares may.0) V c sound proper
+    newest = λ new. spared_by it why is (new_spared image why (stays.refuses may.0).spared V c sound proper
         (subst (λ x. AreNew x V c) same new));
     moving = λ are asks. spared_by it why is (old_spared left may why stays V c sound proper
         (subst (λ x. AreOf x V c) same are));
@@ -254,30 +252,32 @@ module _ {D : Type 0} {g : Ghosts D} (world : World) (image next : Image) (momen
   moved : (path : List ℕ) → world.holds path image → (left : FileStore D g) (told : Result ℤ FileFault)
       → IsMoved world path (Some left) told → Leaves image (Some left) next → (it : Run) → Rests it
       → it.begins ≡ image → (was_empty : Bool) (unsent : Type 0) (old new : Known) (writer : Bool)
-      → TellsMoved was_empty told it.ending unsent old new writer → IsFrom image it next
+      → TellsMoved was_empty told it.ending (output_with unsent old new writer) → IsFrom image it next
   moved path at left (Ok version) h may it calm same was_empty unsent old new writer tells =
       moves_run left may it calm
-      (λ why is. absurd (line_free schema_line was_empty note.Made it.ending old new writer tells why is))
+      (λ why is. absurd (line_free schema_line was_empty note.Made it.ending
+      (output_with unsent old new writer) tells why is))
       (h image at)
   moved path at left (Err why) h may it calm same was_empty unsent old new writer tells =
-      stays_run left may it calm same (spared_move left may it why tells.0 same (h image at).0)
-      (λ d asks. absurd (subst IsDone tells.0 d)) (h image at).2
+      stays_run left may it calm same (spared_move left may it why tells.0 same (h image at))
+      (λ d asks. absurd (subst IsDone tells.0 d)) (h image at).stays
 
   -- a check
   checks_run : (path : List ℕ) → world.holds path image → (left : FileStore D g)
       (told : Result Sizes FileFault) → IsChecked world path (Some left) told → Leaves image (Some left) next
       → (it : Run) → Rests it → it.begins ≡ image → (AsksMove it.words → ⊥) → (log : Bool)
       (unsent : Type 0) (old new : Known) (writer : Bool)
-      → TellsSizes log told it.ending unsent old new writer → IsFrom image it next
+      → TellsSizes log told it.ending (output_with unsent old new writer) → IsFrom image it next
   checks_run path at left (Ok sizes) h may it calm same other log unsent old new writer tells =
       stays_run left may it calm same
       (λ V c sound proper. let free : IsSpared it =
-      λ why refused. absurd (line_free (sound_line sizes) log note.Log it.ending old new writer tells why
+      λ why refused. absurd (line_free (sound_line sizes) log note.Log it.ending
+      (output_with unsent old new writer) tells why
       refused) in record { newest = λ new. free; moving = λ are asks. free })
       (λ d asks. absurd (other asks)) (h image at).2
   checks_run path at left (Err why) h may it calm same other log unsent old new writer tells =
       stays_run left may it calm same
-      (spared_open left may it why tells.0 same other ((h image at).0 may.0).0)
+      (spared_open left may it why tells.0 same other ((h image at).0 may.0).spared)
       (λ d asks. absurd (other asks)) (h image at).2
 
   -- a file that is opened, or refused with a connection
@@ -328,7 +328,7 @@ module _ {D : Type 0} {g : Ghosts D} (world : World) (image next : Image) (momen
         (quiet : unsent → IsQuiet s) (fin : IsDone r.ending → result ≡ Ok outcome.Done)
         (free : (why : FileFault) → r.ending ≡ ending.NotOpened why → ⊥)
         (on : WorksOn (world.holds path) left
-        (λ p broken. Does (outside_in world) t p broken result it unread unsent s)) where
+        (λ p. Does (outside_in world) t p result it (seen_as unread unsent s))) where
       abbrev conn : Held (FileStore D g)
       conn = on.opened
 
@@ -336,7 +336,7 @@ module _ {D : Type 0} {g : Ghosts D} (world : World) (image next : Image) (momen
       opens = on.found image at
 
       abbrev w : Passage
-      w = file_passing conn left
+      w = file_passing conn left on.broken
 
       -- the trees that the open found in the bytes
       abbrev found : Trees
@@ -356,7 +356,7 @@ module _ {D : Type 0} {g : Ghosts D} (world : World) (image next : Image) (momen
           → (it : Comes V c r) × Leads V c r it next
       on_one V c W is sound held holds =
           work_on V c W is held w
-          (works (outside_in world) t w W (may.0, (holds, sound)) sound s on.broken result it unread unsent
+          (works (outside_in world) t w W (may.0, (holds, sound)) sound s result it unread unsent
           still quiet
           values
           (IsDone r.ending) fin on.done)
@@ -389,11 +389,12 @@ module _ {D : Type 0} {g : Ghosts D} (world : World) (image next : Image) (momen
 
     -- a task on files that are opened, or refused with a connection
     on_some : (unread unsent : Type 0) → (unread → IsStill s) → (unsent → IsQuiet s)
-        → EndsOnFile world path (Some left) t end unread unsent s → IsFrom image r next
+        → EndsOnFile world path (Some left) t end (seen_as unread unsent s) → IsFrom image r next
     on_some unread unsent still quiet h = by_ending end refl h
       where
         by_ending : (e : Ending) → end ≡ e
-            → DoesOnFile (outside_in world) (world.holds path) left t e unread unsent s → IsFrom image r next
+            → DoesOnFile (outside_in world) (world.holds path) left t e (seen_as unread unsent s) → IsFrom
+            image r next
         by_ending ending.Done is h = worked (Ok outcome.Done) None unread unsent still quiet (λ _. refl)
             (λ why d. absurd (cc (d, ends, is))) h
         by_ending (ending.Noted note.Log) is h = absurd h
@@ -411,7 +412,7 @@ module _ {D : Type 0} {g : Ghosts D} (world : World) (image next : Image) (momen
             (λ d. absurd (subst IsDone (ends ∙ is) d)) (λ why d. absurd (cc (d, ends, is))) h
         by_ending ending.BadWords is h = absurd h
         by_ending (ending.NotOpened why) is h = stays_run left may r (calm why is (quiet h.2)) same
-            (spared_open left may r why (ends ∙ is) same other (h.0.spared image at may.0))
+            (spared_open left may r why (ends ∙ is) same other (h.0.tells image at may.0).spared)
             (λ d asks. absurd (other asks)) (h.0.stays image at)
         by_ending (ending.Stopped stop) is h =
             worked (Err stop) None unread unsent still quiet (λ d. absurd (subst IsDone (ends ∙ is) d))
@@ -421,7 +422,7 @@ module _ {D : Type 0} {g : Ghosts D} (world : World) (image next : Image) (momen
   each : (left : Option (FileStore D g)) (words : List Text) (job : Job) → IsAsked program_app words job
       → (p : Plan) → Fits moments job p → (end : Ending) (s : Streams) (unread unsent : Type 0)
       → (unread → IsStill s) → (unsent → IsQuiet s) → IsProperPlan p
-      → DoesPlan world left p end unread unsent s
+      → DoesPlan world left p end (seen_as unread unsent s)
       → IsAt world image p → Leaves image left next
       → IsRun (run_of image moments words end s) next
   each left words job asked (plan.Trial t) asks end s unread unsent still quiet values h at leaves =
@@ -466,7 +467,7 @@ module _ {D : Type 0} {g : Ghosts D} (world : World) (image next : Image) (momen
   -- and whatever words it has
   all : (left : Option (FileStore D g)) (words : List Text) (end : Ending) (s : Streams)
       (unread unsent : Type 0) → (unread → IsStill s) → (unsent → IsQuiet s)
-      → DoesWords world left words end unread unsent s
+      → DoesWords world left words end (seen_as unread unsent s)
       → IsFound words (λ path. world.holds path image) → Leaves image left next
       → IsRun (run_of image moments words end s) next
   all left words end s unread unsent still quiet (inl (job, asked, inl (p, is, proper, h))) at leaves =
@@ -487,16 +488,10 @@ module _ {D : Type 0} {g : Ghosts D} (world : World) (image next : Image) (momen
       (subst (λ l. Leaves image l next) none leaves)
 
 pub each_is_run : {D R W E K X P : Type 0} (g : Ghosts D) (remaining : R → Known) (contents : W → Known)
-    (said : E → Known) (tells : K → Turns) (looks : X → List ℕ → Looks)
-    (holds : P → List ℕ → Image → Type 0) (lacks refuses : P → List ℕ → Type 0)
-    (says : P → List ℕ → List ℕ → Type 0) (logs : P → List ℕ → Bool → Type 0)
-    → EveryRunIsOne g remaining contents said tells looks holds lacks refuses says logs
-each_is_run g remaining contents said tells looks holds lacks refuses says logs image next left words status
-    time desk paths moments turns i i' o told o' e e' so h at leaves =
-    let world : World =
-    world_of (tells time) (looks desk) (holds paths) (lacks paths) (refuses paths) (says paths)
-    (logs paths) in
-    all world image next moments so left words h.ending
+    (said : E → Known) (world_of : K → X → P → World) → EveryRunIsOne g remaining contents said world_of
+each_is_run g remaining contents said world_of time desk paths image next words result moments turns
+    i i' o told o' e e' so h at leaves =
+    all (world_of time desk paths) image next moments so result.1 words h.ending
     (with_turns (streams remaining i i' contents o told) turns) (i' ≡ i) (told ≡ o)
     (λ same. subst (λ u. Consumes (remaining i.inner) (remaining u.inner) []) (sym same)
     (consumes_nothing (remaining i.inner)))

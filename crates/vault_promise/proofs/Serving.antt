@@ -23,10 +23,10 @@ use Rattle.vault_live.specs.Turns.Turn.{Lost, Served, Attended}
 use Rattle.vault_live.specs.declared.news.News.{News}
 use Rattle.vault_listen.specs.declared.fault.ListenFault.TheVariants as listener
 use Rattle.vault_changes.specs.Settling.{IsUntouched}
-use Rattle.vault_jobs.specs.Doing.{ServeEnds}
+use Rattle.vault_jobs.specs.Doing.{ServeEnds, serving_of}
 use Rattle.vault_jobs.specs.Lists.{asked_by, asked_of, swept_by}
 use Rattle.vault_jobs.specs.Outside.{Outside}
-use Rattle.vault_jobs.specs.Streams.{Streams}
+use Rattle.vault_jobs.specs.Streams.{Streams, output_with}
 use Rattle.vault_jobs.specs.declared.stop.Stop.{Stop}
 use Rattle.vault_jobs.specs.declared.stop.Stop.TheVariants as stop
 use Rattle.vault_jobs.specs.declared.task.Outcome.{Outcome}
@@ -357,7 +357,8 @@ module _ (tells : Turns) (asks other : Asking) (fine : AsksProper asks)
         let it = torn V b in one_attended first own news are next few it.0 it.1 it.2 it.3
 
     pub serve_works : (port connections : ℕ) (r : Result Outcome Stop) (unsent : Type 0) (s : Streams)
-        → ServeEnds tells asks port connections w r unsent s.sent_old s.sent_new s.writer ts → TurnsWork
+        → ServeEnds (serving_of tells asks port connections) w r
+        (output_with unsent s.sent_old s.sent_new s.writer) ts → TurnsWork
     serve_works port connections (Ok outcome.Done) unsent s h = all_kept h.1.1
     serve_works port connections (Ok (outcome.Refused n)) unsent s h = absurd h
     serve_works port connections (Ok outcome.SomeRefused) unsent s h = absurd h

@@ -1,6 +1,6 @@
 -- What a task answered that reads rights first: one that makes them those of a list, takes one away, or only
 -- says what a vault holds.
-use Rattle.std.proofs.Common.{◌≡◌, ℕ, Bool, true, false, cond, not, List, [], ◌∷◌, length}
+use Rattle.std.proofs.Common.{◌≡◌, ℕ, true, false, cond, not, List, [], ◌∷◌, length}
 use Rattle.std.proofs.Common.{None, Result, Ok, Err, inl, inr, refl, sym, ap, subst, ◌∙◌}
 use Rattle.std.specs.FinMap as finmap
 use Rattle.std.specs.Global.{Vec}
@@ -27,7 +27,7 @@ use Rattle.vault_changes.specs.Settling.{FailsToRead}
 use Rattle.vault_jobs.specs.Doing.{ChangeEnds, SettleEnds, ShowEnds}
 use Rattle.vault_changes.specs.Grants.{grants_at}
 use Rattle.vault_jobs.specs.Listing.{shown_text}
-use Rattle.vault_jobs.specs.Streams.{Streams}
+use Rattle.vault_jobs.specs.Streams.{Streams, output_with}
 use Rattle.vault_jobs.specs.declared.show.Shown.{Shown}
 use Rattle.vault_jobs.specs.declared.stop.Stop.{Stop}
 use Rattle.vault_jobs.specs.declared.stop.Stop.TheVariants as stop
@@ -86,9 +86,9 @@ changes_proper now rows V sound moment proper =
 module _ (tells : Turns) (w : Passage) (V : Content) (b : IsBefore w V) (sound : Sound V) (s : Streams)
     (unsent : Type 0) (quiet : unsent → IsQuiet s) (F : Type 0) where
   -- nothing was answered
-  pub unread_works : (t : _) → Tells tells t V [] s → ¬ F → (broken : Bool) (f : Fault)
-      → FailsToRead w broken f → Works tells w V t F s
-  unread_works t told never broken Memory same = record {
+  pub unread_works : (t : _) → Tells tells t V [] s → ¬ F → (f : Fault)
+      → FailsToRead w f → Works tells w V t F s
+  unread_works t told never Memory same = record {
     answered = [];
     undecided = None;
     proper = tt;
@@ -98,7 +98,7 @@ module _ (tells : Turns) (w : Passage) (V : Content) (b : IsBefore w V) (sound :
     done = λ f. absurd (never f);
     left = (same V b).1;
   }
-  unread_works t told never broken Store (is, h) = record {
+  unread_works t told never Store (is, h) = record {
     answered = [];
     undecided = None;
     proper = tt;
@@ -108,34 +108,35 @@ module _ (tells : Turns) (w : Passage) (V : Content) (b : IsBefore w V) (sound :
     done = λ f. absurd (never f);
     left = h V b;
   }
-  unread_works t told never broken Reopen h = absurd h
+  unread_works t told never Reopen h = absurd h
 
-  pub changed_works : (c : Command) → IsOwn c → IsProper c → (broken : Bool) (r : Result Ended Stop)
+  pub changed_works : (c : Command) → IsOwn c → IsProper c → (r : Result Ended Stop)
       → (F → r ≡ Ok outcome.Done)
-      → ChangeEnds c w broken r unsent s.sent_old s.sent_new s.writer → Works tells w V (task.Change c) F s
-  changed_works c own proper broken r fin (inl h) =
-      change_works tells w V b s unsent quiet F c own proper broken r fin h
-  changed_works c own proper broken r fin (inr (f, is, silent, h, some)) =
-      unread_works (task.Change c) (inl (quiet silent, (0, refl))) (λ d. cc (fin d, is)) broken f h
+      → ChangeEnds c w r (output_with unsent s.sent_old s.sent_new s.writer) → Works tells w V (task.Change c)
+      F s
+  changed_works c own proper r fin (inl h) =
+      change_works tells w V b s unsent quiet F c own proper r fin h
+  changed_works c own proper r fin (inr (f, is, silent, h, some)) =
+      unread_works (task.Change c) (inl (quiet silent, (0, refl))) (λ d. cc (fin d, is)) f h
 
   pub settle_works : (rights : Vec Row) (now : ℕ) → IsMoment now → AllProper (grants_at now rights.items)
-      → (broken : Bool) (r : Result Ended Stop) → (F → r ≡ Ok outcome.Done)
-      → SettleEnds now rights.items w broken r unsent s.sent_old s.sent_new s.writer
+      → (r : Result Ended Stop) → (F → r ≡ Ok outcome.Done)
+      → SettleEnds now rights.items w r (output_with unsent s.sent_old s.sent_new s.writer)
       → Works tells w V (task.Settle rights now) F s
-  settle_works rights now moment proper broken r fin (inl (changes, of, h)) =
+  settle_works rights now moment proper r fin (inl (changes, of, h)) =
       let is = (of V b).commands in
       commands_works tells w V b s unsent quiet F (task.Settle rights now) changes.commands.items
       (settled_line changes)
       (subst AllProper (sym is) (changes_proper now rights.items V sound moment proper))
       (λ done. inr (is, done)) (λ k calm. inl (calm, (k, ap (take k) is)))
-      (λ ds x first. (first.0, first.1 ∙ ap (take first.0) is)) (λ done. (is, done)) broken r fin h
-  settle_works rights now moment proper broken r fin (inr (f, is, silent, h)) =
-      unread_works (task.Settle rights now) (inl (quiet silent, (0, refl))) (λ d. cc (fin d, is)) broken f h
+      (λ ds x first. (first.0, first.1 ∙ ap (take first.0) is)) (λ done. (is, done)) r fin h
+  settle_works rights now moment proper r fin (inr (f, is, silent, h)) =
+      unread_works (task.Settle rights now) (inl (quiet silent, (0, refl))) (λ d. cc (fin d, is)) f h
 
-  pub show_works : (it : Shown) (broken : Bool) (r : Result Ended Stop) → (F → r ≡ Ok outcome.Done)
-      → ShowEnds (shown_text it) w broken r unsent s.sent_old s.sent_new s.writer
+  pub show_works : (it : Shown) (r : Result Ended Stop) → (F → r ≡ Ok outcome.Done)
+      → ShowEnds (shown_text it) w r (output_with unsent s.sent_old s.sent_new s.writer)
       → Works tells w V (task.Show it) F s
-  show_works it broken (Ok outcome.Done) fin (calm, same, h) = record {
+  show_works it (Ok outcome.Done) fin (calm, same, h) = record {
     answered = [];
     undecided = None;
     proper = tt;
@@ -151,11 +152,11 @@ module _ (tells : Turns) (w : Passage) (V : Content) (b : IsBefore w V) (sound :
     done = λ _. refl;
     left = (same V b).1;
   }
-  show_works it broken (Ok (outcome.Refused n)) fin h = absurd h
-  show_works it broken (Ok outcome.SomeRefused) fin h = absurd h
-  show_works it broken (Err (stop.Vault f)) fin (silent, h) =
-      unread_works (task.Show it) (refl, (0, quiet silent)) (λ d. cc (fin d)) broken f h
-  show_works it broken (Err (stop.Service f)) fin (is, failed, same, h) = record {
+  show_works it (Ok (outcome.Refused n)) fin h = absurd h
+  show_works it (Ok outcome.SomeRefused) fin h = absurd h
+  show_works it (Err (stop.Vault f)) fin (silent, h) =
+      unread_works (task.Show it) (refl, (0, quiet silent)) (λ d. cc (fin d)) f h
+  show_works it (Err (stop.Service f)) fin (is, failed, same, h) = record {
     answered = [];
     undecided = None;
     proper = tt;
@@ -165,6 +166,6 @@ module _ (tells : Turns) (w : Passage) (V : Content) (b : IsBefore w V) (sound :
     done = λ f. absurd (cc (fin f));
     left = (same V b).1;
   }
-  show_works it broken (Err (stop.Listener f)) fin h = absurd h
-  show_works it broken (Err (stop.Rights f)) fin h = absurd h
-  show_works it broken (Err (stop.Batch f)) fin h = absurd h
+  show_works it (Err (stop.Listener f)) fin h = absurd h
+  show_works it (Err (stop.Rights f)) fin h = absurd h
+  show_works it (Err (stop.Batch f)) fin h = absurd h

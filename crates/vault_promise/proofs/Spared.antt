@@ -9,7 +9,7 @@ use Rattle.vault_core.specs.Vault.{Vault as Content}
 use Rattle.vault_core.specs.declared.command.Command.{Command}
 use Rattle.vault_file.specs.Found.{IsNoVerdict, SparesStopped}
 use Rattle.vault_core.specs.Proper.{IsProper}
-use Rattle.vault_jobs.specs.Streams.{Known, Streams}
+use Rattle.vault_jobs.specs.Streams.{Known, Output, Streams, output_with}
 use Rattle.vault_jobs.specs.declared.task.Task.{Task}
 use Rattle.clap.specs.Words.{Text, IsAmong}
 use Rattle.vault_words.specs.declared.jobs.Job.{Job}
@@ -71,21 +71,22 @@ no_memory = (
 )
 
 -- a line is written, with a note or none, or the writer failed
-pub line_free : (text : List ℕ) (noted : Bool) (of : Note) (e : Ending) (old new : Known) (writer : Bool)
-    → NotedLineEnds text noted of e old new writer → (why : FileFault) → e ≡ ending.NotOpened why → ⊥
-line_free text true of e old new writer (ending.Done, ends, is) why same = absurd (cc (is, same))
-line_free text false of e old new writer (ending.Done, ends, is) why same = absurd (cc (is, same))
-line_free text true of e old new writer (ending.Stopped s, ends, is) why same = absurd (cc (is, same))
-line_free text false of e old new writer (ending.Stopped s, ends, is) why same = absurd (cc (is, same))
-line_free text noted of e old new writer (line, ends, is) why same = ends
+pub line_free : (text : List ℕ) (noted : Bool) (of : Note) (e : Ending) (out : Output)
+    → NotedLineEnds text noted of e out → (why : FileFault) → e ≡ ending.NotOpened why → ⊥
+line_free text true of e out (ending.Done, ends, is) why same = absurd (cc (is, same))
+line_free text false of e out (ending.Done, ends, is) why same = absurd (cc (is, same))
+line_free text true of e out (ending.Stopped s, ends, is) why same = absurd (cc (is, same))
+line_free text false of e out (ending.Stopped s, ends, is) why same = absurd (cc (is, same))
+line_free text noted of e out (line, ends, is) why same = ends
 
 -- and with no files left
 pub none_checked : {D : Type 0} (g : Ghosts D) (world : World) (told : Result Sizes FileFault)
     (path : List ℕ) → IsChecked {g = g} world path None told → (it : Run) (log : Bool) (unsent : Type 0)
     (old new : Known) (writer : Bool)
-    → TellsSizes log told it.ending unsent old new writer → IsSpared it
+    → TellsSizes log told it.ending (output_with unsent old new writer) → IsSpared it
 none_checked g world (Ok sizes) path h it log unsent old new writer tells =
-    λ why refused. absurd (line_free (sound_line sizes) log note.Log it.ending old new writer tells why
+    λ why refused. absurd (line_free (sound_line sizes) log note.Log it.ending
+    (output_with unsent old new writer) tells why
     refused)
 none_checked g world (Err why) path h it log unsent old new writer tells =
     spared_by it why tells.0 (elim h [
@@ -96,7 +97,7 @@ none_checked g world (Err why) path h it log unsent old new writer tells =
 pub none_moved : {D : Type 0} (g : Ghosts D) (world : World) (told : Result ℤ FileFault)
     (path : List ℕ) → IsMoved {g = g} world path None told → (it : Run) (was_empty : Bool)
     (unsent : Type 0) (old new : Known) (writer : Bool)
-    → TellsMoved was_empty told it.ending unsent old new writer
+    → TellsMoved was_empty told it.ending (output_with unsent old new writer)
     → IsSpared it × (IsDone it.ending → AsksMove it.words → ⊥)
 none_moved g world (Ok version) path h it was_empty unsent old new writer tells = absurd h
 none_moved g world (Err why) path h it was_empty unsent old new writer tells =

@@ -1,5 +1,5 @@
 -- What a sweep answered, and what it left undecided.
-use Rattle.std.proofs.Common.{◌≡◌, ◌⊎◌, ℕ, ◌≤◌, Bool, List, [], ◌∷◌, ◌++◌, length}
+use Rattle.std.proofs.Common.{◌≡◌, ◌⊎◌, ℕ, ◌≤◌, List, [], ◌∷◌, ◌++◌, length}
 use Rattle.std.proofs.Common.{Some, None, Result, Ok, Err, inl, inr, refl, ap, subst, ◌∙◌, arith}
 use Rattle.std.proofs.Common.{append-nil}
 use Rattle.std.proofs.lemmas.List.{map-append}
@@ -25,7 +25,7 @@ use Rattle.vault_changes.proofs.Purging.{first_dead, purged_first}
 use Rattle.vault_jobs.specs.Ahead.{MaySweep}
 use Rattle.vault_jobs.specs.Doing.{SweepEnds, TimedSweepEnds}
 use Rattle.vault_changes.specs.Grants.{AreDone}
-use Rattle.vault_jobs.specs.Streams.{Streams}
+use Rattle.vault_jobs.specs.Streams.{Streams, output_with}
 use Rattle.vault_jobs.specs.Sweeps.{AreSwept, Begin, left_dead, purge_at, purges_at, swept_vault}
 use Rattle.vault_jobs.specs.declared.clock.Giver.{Giver}
 use Rattle.vault_jobs.specs.declared.clock.Giver.TheVariants.{Words, Clock}
@@ -112,43 +112,43 @@ module _ (who : Asker) (now : ℕ) (named : IsName who.caller) (at : IsName who.
           }
       torn tokens (token ∷ other ∷ more) few swept begins left calm undone = absurd (omega (arith, few))
 
-      sweep_works : (broken : Bool) (r : Result Ended Stop) → (F → r ≡ Ok outcome.Done)
-          → SweepEnds who now w broken r unsent s.sent_old s.sent_new s.writer
+      sweep_works : (r : Result Ended Stop) → (F → r ≡ Ok outcome.Done)
+          → SweepEnds who now w r (output_with unsent s.sent_old s.sent_new s.writer)
           → Works tells w V (task.Sweep who now giver) F s
-      sweep_works broken (Ok outcome.Done) fin h =
+      sweep_works (Ok outcome.Done) fin h =
           let it = h.1.1.1 V b in
           purged h.1.1.0 it.0 it.3.1 (inr it.1) (λ _. it.1)
-      sweep_works broken (Ok (outcome.Refused n)) fin h =
+      sweep_works (Ok (outcome.Refused n)) fin h =
           let it = h.1.2 V b in
           purged h.1.0 it.0 it.3.1 (inl (quiet h.0)) (λ f. absurd (cc (fin f)))
-      sweep_works broken (Ok outcome.SomeRefused) fin h = absurd h
-      sweep_works broken (Err (stop.Vault Memory)) fin h =
+      sweep_works (Ok outcome.SomeRefused) fin h = absurd h
+      sweep_works (Err (stop.Vault Memory)) fin h =
           let it = h.1.1 V b in
           purged h.1.0 it.0 it.1.1 (inl (quiet h.0)) (λ f. absurd (cc (fin f)))
-      sweep_works broken (Err (stop.Vault Store)) fin h =
+      sweep_works (Err (stop.Vault Store)) fin h =
           let it = h.1.3 V b in
           torn h.1.0 h.1.1 h.1.2 it.1 it.2 it.3 (quiet h.0) (λ f. cc (fin f))
-      sweep_works broken (Err (stop.Vault Reopen)) fin h = absurd h.1
-      sweep_works broken (Err (stop.Service f)) fin h =
+      sweep_works (Err (stop.Vault Reopen)) fin h = absurd h.1
+      sweep_works (Err (stop.Service f)) fin h =
           let it = h.2.1.1 V b in
           purged h.2.1.0 it.0 it.3.1 (inr it.1) (λ _. it.1)
-      sweep_works broken (Err (stop.Listener f)) fin h = absurd h
-      sweep_works broken (Err (stop.Rights f)) fin h = absurd h
-      sweep_works broken (Err (stop.Batch f)) fin h = absurd h
+      sweep_works (Err (stop.Listener f)) fin h = absurd h
+      sweep_works (Err (stop.Rights f)) fin h = absurd h
+      sweep_works (Err (stop.Batch f)) fin h = absurd h
 
     -- one that may not, or whose merchant wasn't read
     none_swept : (giver : Giver) → unsent → Tells tells (task.Sweep who now giver) V [] s
     none_swept giver silent = ([], refl, (refl, refl), inl (quiet silent), inl (refl, quiet silent))
 
-    pub timed_sweep_works : (giver : Giver) (broken : Bool) (r : Result Ended Stop)
+    pub timed_sweep_works : (giver : Giver) (r : Result Ended Stop)
         → (F → r ≡ Ok outcome.Done)
-        → TimedSweepEnds giver who now w broken r unsent s.sent_old s.sent_new s.writer
+        → TimedSweepEnds giver who now w r (output_with unsent s.sent_old s.sent_new s.writer)
         → Works tells w V (task.Sweep who now giver) F s
-    timed_sweep_works Words broken r fin h = sweep_works Words tt broken r fin h
-    timed_sweep_works Clock broken r fin (inl (near, h)) = sweep_works Clock (near V b) broken r fin h
-    timed_sweep_works Clock broken r fin (inr (inl (is, silent, same, far))) =
+    timed_sweep_works Words r fin h = sweep_works Words tt r fin h
+    timed_sweep_works Clock r fin (inl (near, h)) = sweep_works Clock (near V b) r fin h
+    timed_sweep_works Clock r fin (inr (inl (is, silent, same, far))) =
         unread_works tells w V b sound s unsent quiet F (task.Sweep who now Clock) (none_swept Clock silent)
-        (λ f. cc (is, fin f)) broken Memory same
-    timed_sweep_works Clock broken r fin (inr (inr (f, is, silent, h))) =
+        (λ f. cc (is, fin f)) Memory same
+    timed_sweep_works Clock r fin (inr (inr (f, is, silent, h))) =
         unread_works tells w V b sound s unsent quiet F (task.Sweep who now Clock) (none_swept Clock silent)
-        (λ d. cc (is, fin d)) broken f h
+        (λ d. cc (is, fin d)) f h

@@ -1,7 +1,7 @@
 -- What a task answered, and what it left undecided.
 use Rattle.std.proofs.Common.{◌≡◌, ℕ, ◌+◌, ◌<◌, zero, suc, List, [], ◌∷◌, ◌++◌, length, take, Option, Some}
-use Rattle.std.proofs.Common.{None, Bool, true, false, Result, Ok, Err, inl, inr, refl, sym, ap, subst, ◌∙◌}
-use Rattle.std.proofs.Common.{arith}
+use Rattle.std.proofs.Common.{None, true, false, Result, Ok, Err, inl, inr, refl, sym, ap, subst, ◌∙◌}
+use Rattle.std.proofs.Common.{Bool, arith}
 use Rattle.std.specs.Prelude.{IfSome, codes}
 use Rattle.std.specs.Global.{Vec}
 use Rattle.vault_rights.specs.Named.{Row}
@@ -25,7 +25,7 @@ use Rattle.vault_changes.proofs.GivenRights.{run_more}
 use Rattle.vault_changes.specs.Carried.{Carries, reply_of}
 use Rattle.vault_jobs.specs.Doing.{CommandsEnd}
 use Rattle.vault_changes.specs.Grants.{AreDone, CarriesAll, grants_at}
-use Rattle.vault_jobs.specs.Streams.{Streams}
+use Rattle.vault_jobs.specs.Streams.{Streams, output_with}
 use Rattle.vault_jobs.specs.Tasks.{granted_line}
 use Rattle.vault_changes.specs.Carried.{Verdict}
 use Rattle.vault_jobs.specs.declared.stop.Stop.{Stop}
@@ -76,8 +76,8 @@ own_verdict V c own = at_setting (λ set. (v : Verdict) × (reply V set ≡ repl
 module _ (tells : Turns) (w : Passage) (V : Content) (b : IsBefore w V) (s : Streams) (unsent : Type 0)
     (quiet : unsent → IsQuiet s) (F : Type 0) where
   module _ (c : Command) (own : IsOwn c) (proper : IsProper c) where
-    change_done : (broken : Bool) → Carries c w broken (Ok (Ok tt)) → Works tells w V (task.Change c) F s
-    change_done broken carried = record {
+    change_done : Carries c w (Ok (Ok tt)) → Works tells w V (task.Change c) F s
+    change_done carried = record {
       answered = c ∷ [];
       undecided = None;
       proper = (proper, tt);
@@ -88,11 +88,27 @@ module _ (tells : Turns) (w : Passage) (V : Content) (b : IsBefore w V) (s : Str
       left = (carried V b).1.1;
     }
 
-    pub change_works : (broken : Bool) (r : Result Ended Stop) → (F → r ≡ Ok outcome.Done)
-        → CommandsEnd (Carries c w broken) (codes "done\n") r unsent s.sent_old s.sent_new s.writer
+    -- the store failed at it
+    change_torn : (broken : Bool) → w.broken ≡ broken → unsent → Carries c w (Err Store) → ¬ F
         → Works tells w V (task.Change c) F s
-    change_works broken (Ok outcome.Done) fin h = change_done broken h.2
-    change_works broken (Ok (outcome.Refused n)) fin h = record {
+    change_torn true is silent carried never = record {
+      answered = [];
+      undecided = Some c;
+      proper = tt;
+      last_proper = proper;
+      tells = inl (quiet silent, (0, refl));
+      next = refl;
+      done = λ f. absurd (never f);
+      left = carried.0 is V b;
+    }
+    change_torn false is silent carried never =
+        let v = own_verdict V c own in absurd ((carried.1 is V b).0 v.0 v.1)
+
+    pub change_works : (r : Result Ended Stop) → (F → r ≡ Ok outcome.Done)
+        → CommandsEnd (Carries c w) (codes "done\n") r (output_with unsent s.sent_old s.sent_new s.writer)
+        → Works tells w V (task.Change c) F s
+    change_works (Ok outcome.Done) fin h = change_done h.2
+    change_works (Ok (outcome.Refused n)) fin h = record {
       answered = c ∷ [];
       undecided = None;
       proper = (proper, tt);
@@ -102,8 +118,8 @@ module _ (tells : Turns) (w : Passage) (V : Content) (b : IsBefore w V) (s : Str
       done = λ f. absurd (cc (fin f));
       left = (h.1 V b).1.1;
     }
-    change_works broken (Ok outcome.SomeRefused) fin h = absurd h
-    change_works broken (Err (stop.Vault Memory)) fin h = record {
+    change_works (Ok outcome.SomeRefused) fin h = absurd h
+    change_works (Err (stop.Vault Memory)) fin h = record {
       answered = [];
       undecided = None;
       proper = tt;
@@ -113,24 +129,13 @@ module _ (tells : Turns) (w : Passage) (V : Content) (b : IsBefore w V) (s : Str
       done = λ f. absurd (cc (fin f));
       left = (h.1 V b).1;
     }
-    change_works true (Err (stop.Vault Store)) fin h = record {
-      answered = [];
-      undecided = Some c;
-      proper = tt;
-      last_proper = proper;
-      tells = inl (quiet h.0, (0, refl));
-      next = refl;
-      done = λ f. absurd (cc (fin f));
-      left = h.1.0 refl V b;
-    }
-    change_works false (Err (stop.Vault Store)) fin h =
-        let v = own_verdict V c own in
-        absurd ((h.1.1 refl V b).0 v.0 v.1)
-    change_works broken (Err (stop.Vault Reopen)) fin h = absurd h.1
-    change_works broken (Err (stop.Service f)) fin h = change_done broken h.2
-    change_works broken (Err (stop.Listener f)) fin h = absurd h
-    change_works broken (Err (stop.Rights f)) fin h = absurd h
-    change_works broken (Err (stop.Batch f)) fin h = absurd h
+    change_works (Err (stop.Vault Store)) fin h =
+        change_torn w.broken refl h.0 h.1 (λ f. cc (fin f))
+    change_works (Err (stop.Vault Reopen)) fin h = absurd h.1
+    change_works (Err (stop.Service f)) fin h = change_done h.2
+    change_works (Err (stop.Listener f)) fin h = absurd h
+    change_works (Err (stop.Rights f)) fin h = absurd h
+    change_works (Err (stop.Batch f)) fin h = absurd h
 
 -- the first of proper commands are
 pub first_proper : (k : ℕ) (cs : List Command) → AllProper cs → AllProper (take k cs)
@@ -164,8 +169,8 @@ module _ (tells : Turns) (w : Passage) (V : Content) (b : IsBefore w V) (s : Str
       (silent : (k : ℕ) → IsQuiet s → Tells tells t V (take k cs) s)
       (asked : (ds : List Command) (x : Command) → AreFirst (ds ++ x ∷ []) cs → IsNext tells t V ds s x)
       (ended : AreDone (length cs) cs V → AllDone t V cs) where
-    all_works : (broken : Bool) → CarriesAll cs w broken (Ok (Ok tt)) → Works tells w V t F s
-    all_works broken carried = record {
+    all_works : CarriesAll cs w (Ok (Ok tt)) → Works tells w V t F s
+    all_works carried = record {
       answered = cs;
       undecided = None;
       proper = proper;
@@ -177,9 +182,9 @@ module _ (tells : Turns) (w : Passage) (V : Content) (b : IsBefore w V) (s : Str
     }
 
     -- the first are done and one is refused, or not answered
-    pub refused_works : (broken : Bool) (n : ℕ) → ¬ F → IsQuiet s
-        → CarriesAll cs w broken (Ok (Err n)) → Works tells w V t F s
-    refused_works broken n never calm h =
+    pub refused_works : (n : ℕ) → ¬ F → IsQuiet s
+        → CarriesAll cs w (Ok (Err n)) → Works tells w V t F s
+    refused_works n never calm h =
         let k = h.0 in
         record {
           answered = take (k + 1) cs;
@@ -192,9 +197,9 @@ module _ (tells : Turns) (w : Passage) (V : Content) (b : IsBefore w V) (s : Str
           left = (h.2 V b).1.1;
         }
 
-    pub stopped_works : (broken : Bool) (f : Fault) → ¬ F → IsQuiet s → CarriesAll cs w broken (Err f)
+    pub stopped_works : (f : Fault) → ¬ F → IsQuiet s → CarriesAll cs w (Err f)
         → Works tells w V t F s
-    stopped_works broken Memory never calm h =
+    stopped_works Memory never calm h =
         let k = h.0 in
         record {
           answered = take k cs;
@@ -206,7 +211,7 @@ module _ (tells : Turns) (w : Passage) (V : Content) (b : IsBefore w V) (s : Str
           done = λ f. absurd (never f);
           left = (h.2 V b).1.1;
         }
-    stopped_works broken Store never calm h =
+    stopped_works Store never calm h =
         let k = h.0 in
         let more = one_more k cs h.1 in
         record {
@@ -220,27 +225,27 @@ module _ (tells : Turns) (w : Passage) (V : Content) (b : IsBefore w V) (s : Str
           left = subst (λ W. w.left_new (run (take k cs) V) W)
               (ap (λ ds. run ds V) more.is ∙ run_more (take k cs) more.one V) (h.2 V b).2;
         }
-    stopped_works broken Reopen never calm h = absurd h
+    stopped_works Reopen never calm h = absurd h
 
-    pub commands_works : (broken : Bool) (r : Result Ended Stop) → (F → r ≡ Ok outcome.Done)
-        → CommandsEnd (CarriesAll cs w broken) line r unsent s.sent_old s.sent_new s.writer
+    pub commands_works : (r : Result Ended Stop) → (F → r ≡ Ok outcome.Done)
+        → CommandsEnd (CarriesAll cs w) line r (output_with unsent s.sent_old s.sent_new s.writer)
         → Works tells w V t F s
-    commands_works broken (Ok outcome.Done) fin h = all_works broken h.2
-    commands_works broken (Ok (outcome.Refused n)) fin h =
-        refused_works broken n (λ f. cc (fin f)) (quiet h.0) h.1
-    commands_works broken (Ok outcome.SomeRefused) fin h = absurd h
-    commands_works broken (Err (stop.Vault f)) fin h =
-        stopped_works broken f (λ d. cc (fin d)) (quiet h.0) h.1
-    commands_works broken (Err (stop.Service f)) fin h = all_works broken h.2
-    commands_works broken (Err (stop.Listener f)) fin h = absurd h
-    commands_works broken (Err (stop.Rights f)) fin h = absurd h
-    commands_works broken (Err (stop.Batch f)) fin h = absurd h
+    commands_works (Ok outcome.Done) fin h = all_works h.2
+    commands_works (Ok (outcome.Refused n)) fin h =
+        refused_works n (λ f. cc (fin f)) (quiet h.0) h.1
+    commands_works (Ok outcome.SomeRefused) fin h = absurd h
+    commands_works (Err (stop.Vault f)) fin h =
+        stopped_works f (λ d. cc (fin d)) (quiet h.0) h.1
+    commands_works (Err (stop.Service f)) fin h = all_works h.2
+    commands_works (Err (stop.Listener f)) fin h = absurd h
+    commands_works (Err (stop.Rights f)) fin h = absurd h
+    commands_works (Err (stop.Batch f)) fin h = absurd h
 
-  pub give_works : (rights : Vec Row) (now : ℕ) → AllProper (grants_at now rights.items) → (broken : Bool)
+  pub give_works : (rights : Vec Row) (now : ℕ) → AllProper (grants_at now rights.items) →
       (r : Result Ended Stop) → (F → r ≡ Ok outcome.Done)
-      → CommandsEnd (CarriesAll (grants_at now rights.items) w broken) (granted_line (length rights.items)) r
-      unsent s.sent_old s.sent_new s.writer → Works tells w V (task.Give rights now) F s
-  give_works rights now proper broken r fin h =
+      → CommandsEnd (CarriesAll (grants_at now rights.items) w) (granted_line (length rights.items)) r
+      (output_with unsent s.sent_old s.sent_new s.writer) → Works tells w V (task.Give rights now) F s
+  give_works rights now proper r fin h =
       commands_works (task.Give rights now) (grants_at now rights.items) (granted_line (length rights.items))
       proper (λ done. inr (refl, done)) (λ k calm. inl (calm, (k, refl))) (λ ds x first. first)
-      (λ done. (refl, done)) broken r fin h
+      (λ done. (refl, done)) r fin h

@@ -5,7 +5,7 @@ use Rattle.sqlite_disk.specs.Memory.{memory_bytes}
 use Rattle.sqlite_disk.specs.declared.Files.{Files}
 use Rattle.sqlite_disk.specs.declared.memory.Memory.{Memory}
 use Rattle.sqlite_wal.specs.Recovery.{Image}
-use Rattle.vault_app.specs.World.{World, world_of}
+use Rattle.vault_app.specs.World.{World, untold}
 use Rattle.vault_listen.specs.Live.{Turns}
 use Rattle.vault_live.specs.Following.{Looks}
 
@@ -24,6 +24,11 @@ MayBeLeftIn files image = MayBeLeftOf files.log image.log × MayBeLeftOf files.d
 -- At every path the files hold these bytes, no path lacks them, and nothing else is told but moments and what
 -- was looked at.
 abbrev pub memory_world : Turns → (List ℕ → Looks) → Image → World
-memory_world tells looks image =
-    world_of tells looks (λ path found. found ≡ image) (λ path. ⊥) (λ path. Unit {0}) (λ path text. Unit {0})
-    (λ path log. Unit {0})
+memory_world tells looks image = record untold {
+  tells = tells;
+  looks = looks;
+  holds = λ path found. found ≡ image;
+  refuses = λ path. Unit {0};
+  says = λ path text. Unit {0};
+  logs = λ path log. Unit {0};
+}

@@ -23,20 +23,19 @@ use Rattle.vault_schema.specs.Stands.{lookups_of}
 use Rattle.vault_steps.specs.Entries.{AreSome}
 use Rattle.vault_recover.specs.Histories.{Answered, IsHistory, Reopened, Step, Undecided}
 use Rattle.vault_listen.specs.Live.{Turns}
-use Rattle.vault_live.specs.Following.{Looks}
 use Rattle.vault_live.specs.Turns.{Turn}
 use Rattle.vault_wire.specs.declared.watched.Watched.{Watched}
-use Rattle.vault_jobs.specs.Streams.{Known, Streams, streams, with_turns}
+use Rattle.vault_jobs.specs.Streams.{Known, Streams, seen_as, streams, with_turns}
 use Rattle.vault_jobs.specs.declared.task.Task.{Task}
 use Rattle.vault_words.specs.Commands.{program_app}
 use Rattle.vault_words.specs.Jobs.{IsAsked}
 use Rattle.vault_words.specs.declared.jobs.Job.{Job}
-use Rattle.vault_app.specs.Jobs.{RunsAs}
 use Rattle.vault_app.specs.Plans.{EndsPlanless, IsTaskOf, saying}
 use Rattle.vault_app.specs.Asked.{AsksFor}
-use Rattle.vault_app.specs.Ending.{IsDone}
+use Rattle.vault_app.specs.Ending.{IsDone, said_on}
+use Rattle.vault_app.specs.Jobs.{DoesRun}
 use Rattle.vault_app.specs.Saying.{IsBeside, OfMove, Purpose, path_of}
-use Rattle.vault_app.specs.World.{World, anything, world_of}
+use Rattle.vault_app.specs.World.{World, anything}
 use Rattle.vault_app.specs.declared.ending.Ending.{Ending}
 use Rattle.vault_app.specs.declared.ending.Ending.TheVariants.{NotOpened}
 use Rattle.vault_file.specs.declared.fault.NotOpened.{NotOpened as FileFault}
@@ -193,23 +192,19 @@ IsFound words Holding = (job : Job) (path : List ℕ) → IsAsked program_app wo
 -- of its words hold these bytes, and its clock tells no other moments than these; and with whatever bytes the
 -- next one begins: it is a run up to these.
 module _ {D R W E K X P : Type 0} (g : Ghosts D) (remaining : R → Known) (contents : W → Known)
-    (said : E → Known) (tells : K → Turns) (looks : X → List ℕ → Looks)
-    (holds : P → List ℕ → Image → Type 0)
-    (lacks refuses : P → List ℕ → Type 0) (says : P → List ℕ → List ℕ → Type 0)
-    (logs : P → List ℕ → Bool → Type 0) where
+    (said : E → Known) (world_of : K → X → P → World) where
   abbrev pub EveryRunIsOne : Type 0
   EveryRunIsOne =
-      (image next : Image) (left : Option (FileStore D g)) (words : List Text) (status : ℕ) (time : K)
-      (desk : X) (paths : P) (moments : Moments) (turns : List Turn) (i i' : Watched R)
-      (o told o' : Watched W)
-      (e e' : Watched E) → ((turn now : ℕ) → tells time turn now → told_by moments turn now)
-      → (it : RunsAs remaining contents said
-      (world_of (tells time) (looks desk) (holds paths) (lacks paths) (refuses paths) (says paths)
-      (logs paths)) left words
-      status turns i i' o told o' e e')
-      → IsFound words (λ path. holds paths path image) → Leaves image left next
-      → (let s : Streams = with_turns (streams remaining i i' contents o told) turns in
-      IsRun (record {
+      (time : K) (desk : X) (paths : P) (image next : Image) (words : List Text)
+      (result : ℕ × Option (FileStore D g)) (moments : Moments) (turns : List Turn) (i i' : Watched R)
+      (o told o' : Watched W) (e e' : Watched E)
+      → (let world : World = world_of time desk paths in
+      ((turn now : ℕ) → world.tells turn now → told_by moments turn now)
+      → let s : Streams = with_turns (streams remaining i i' contents o told) turns in
+      (it : DoesRun world words result (seen_as (i' ≡ i) (told ≡ o) s) (said_on contents told o')
+      (said_on said e e'))
+      → IsFound words (λ path. world.holds path image) → Leaves image result.1 next
+      → IsRun (record {
         begins = image;
         words = words;
         moments = moments;

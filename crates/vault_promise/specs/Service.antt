@@ -8,7 +8,8 @@ use Rattle.vault_wire.specs.declared.fault.WireFault.{WireFault}
 use Rattle.vault_wire.specs.declared.watched.Watched.{Watched}
 use Rattle.vault_http.specs.Exchanges.{fault_text, last_text}
 use Rattle.vault_engine.specs.Asking.{Pair}
-use Rattle.vault_engine.specs.Passing.{IsBefore, Keeps, Passage, Sends, Takes, passing}
+use Rattle.vault_engine.specs.Passing.{IsBefore, Keeps, Passage, Sends, Takes, giving, vault_passing}
+use Rattle.vault_engine.specs.Passing.{sending}
 use Rattle.vault_http.specs.Served.{IsServed, IsStopped}
 use Rattle.vault_engine.specs.declared.stop.Stop.{Stop as ServeFault}
 use Rattle.vault_http.specs.declared.served.Served.{Served}
@@ -107,4 +108,4 @@ abbrev pub EachPassage : {S W T : Type 0} → (S → List Pair) → (W → Optio
     → (T → Content → Type 0) → (T → Content → Content → Type 0) → (Passage → Type 0) → Type 0
 EachPassage {S} {W} {T} given contents honest holds leaves P =
     (s s' : S) (w w' : Watched W) (v v' : Vault T)
-    → P (passing given s s' contents w w' honest holds leaves v v')
+    → P (sending contents w w' (giving given s s' (vault_passing honest holds leaves v v')))

@@ -4,11 +4,12 @@ use Rattle.clap.specs.Words.{Text}
 use Rattle.sqlite_disk.specs.declared.Disk.{Ghosts}
 use Rattle.sqlite_store.specs.declared.store.FileStore.{FileStore}
 use Rattle.sqlite_wal.specs.Recovery.{Image}
+use Rattle.vault_app.specs.Ending.{said_on}
+use Rattle.vault_app.specs.Jobs.{DoesRun}
 use Rattle.vault_listen.specs.Peers.{Event}
 use Rattle.vault_live.specs.Turns.{Turn, events_in}
 use Rattle.vault_wire.specs.declared.watched.Watched.{Watched}
-use Rattle.vault_jobs.specs.Streams.{Known, streams, with_turns}
-use Rattle.vault_app.specs.Jobs.{RunsAs}
+use Rattle.vault_jobs.specs.Streams.{Known, seen_over, seen_with, streams, with_turns}
 use Rattle.vault_app.specs.World.{World}
 use Rattle.vault_promise.specs.Runs.{IsFound, Leaves, Run, told_by}
 
@@ -24,7 +25,9 @@ module _ {D R W E : Type 0} (g : Ghosts D) (remaining : R → Known) (contents :
     pub told : Watched W
     pub turns : List Turn
     pub came : (log : List Event) → told_old log → told_new (log ++ events_in turns)
-    pub does : RunsAs remaining contents said world left words status turns i i' o told o' e e'
+    pub does : DoesRun world words (status, left)
+        (seen_with (seen_over remaining i i' contents o told) turns) (said_on contents told o')
+        (said_on said e e')
     pub is : r ≡ record {
       begins = r.begins;
       words = words;

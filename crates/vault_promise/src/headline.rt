@@ -1,5 +1,6 @@
 //! The sentences of the headline, of any runs of the program on one file: what each says follows from the
 //! promise, whose clauses are all that its proof takes of the program.
+ghost use Rattle.vault_app.specs.World.{world_at};
 ghost use Rattle.vault_promise.specs.OpenedSound.{FilesOpenSound};
 ghost use Rattle.vault_promise.specs.Sentences.{AnswersAreKept, ChangesAreWhole, CountsAreWithin, DoneIsDone};
 ghost use Rattle.vault_promise.specs.Sentences.{MomentsAreTold, MovesKeepTheVault, NumbersAreCounted};
@@ -105,9 +106,8 @@ pub fn moves_keep_the_vault<P: Paths, K: Timekeeper, D: Desk, R: Read, W: Write,
 ///
 /// It is a law of `run`, whatever the bytes are: those above are of runs from a sound vault on.
 pub fn files_open_where_sound<P: Paths, K: Timekeeper, D: Desk, R: Read, W: Write, E: Write>()
-    ensures { FilesOpenSound P.Disk.Disk R.remaining W.contents E.contents K.tells D.says P.holds P.lacks
-        P.refuses
-        P.says P.logs }
+    ensures { FilesOpenSound P.Disk.Disk R.remaining W.contents E.contents
+        (λ (time : K) (desk : D) (paths : P). world_at P.Paths (K.tells time) (D.says desk) paths) }
 {}
 
 /// Where the vault was once empty, a merchant's count lies between the numbers answered since then and those

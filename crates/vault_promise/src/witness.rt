@@ -1,8 +1,7 @@
 //! A call of the program, after the runs before it.
 ghost use Rattle.std.specs.Prelude.{◌≡◌, ℕ, IfSome, map};
 ghost use Rattle.sqlite_wal.specs.Recovery.{Image};
-ghost use Rattle.vault_app.specs.World.{World, world_of};
-ghost use Rattle.vault_core.specs.Vault.{Vault};
+ghost use Rattle.vault_app.specs.World.{World, world_at};
 ghost use Rattle.vault_promise.specs.Between.{files_kept};
 ghost use Rattle.vault_promise.specs.Kept.{AgreesWith, GoesOn, StandsAfter};
 ghost use Rattle.vault_promise.specs.Memory.{MayBeLeftIn, bytes_in, memory_world};
@@ -47,10 +46,7 @@ pub fn run_again<
     output: &mut Watched<W>,
     errors: &mut Watched<E>,
 ) -> (u8, Option<FileStore<P::Disk>>)
-    ensures { let world : World =
-        world_of (K.tells time.now) (D.says desk.now) (P.holds paths) (P.lacks paths) (P.refuses paths)
-        (P.says paths)
-        (P.logs paths) in
+    ensures { let world : World = world_at P.Paths (K.tells time.now) (D.says desk.now) paths in
         (image : Image) (moments : Moments)
         → ((turn now : ℕ) → K.tells time.now turn now → told_by moments turn now)
         → IsFound (map A.text words.now) (λ path. P.holds paths path image)

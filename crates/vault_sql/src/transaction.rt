@@ -263,11 +263,8 @@ pub(crate) fn write<S: Alter>(
 ) -> Result<(), StoreFault>
     // the numbers of the changes fit the columns
     requires storable { AreStorable ch.now }
-    // the connection is outside a transaction
     requires idle { conn.old.in_transaction ≡ false }
-    // the connection is outside a transaction
     ensures idle { conn.new.in_transaction ≡ false }
-    // a disk that is honest after the call was so before it
     ensures clean { KeepsDoubts S.Store conn.old conn.new }
     // with Ok, on an honest disk, a sound vault that was held, whose merchant was known so, and that the
     // changes fit is held with them

@@ -25,23 +25,32 @@ module _ {T : Type 0} (g : Ghosts T) where
     pub failing : FailsWith result (g.has_failed old) (g.has_failed new)
     pub allowed : IsAllowed g.may_refuse g.may_fail result
 
+  -- a disk that is honest after the call was so before it
+  abbrev pub WasHonest : Vault T → Vault T → Type 0
+  WasHonest old new = g.is_honest (tables_of new) → g.is_honest (tables_of old)
+
+  -- how a call of a vault fails
+  pub record Fails {X : Type 0} (old new : Vault T) (result : Result X Fault) : Type 0 where
+    -- a vault that is broken already says so, and no other does
+    pub reopen : (result ≡ Err Reopen) ↔ (is_broken old ≡ true)
+    pub unchanged : result ≡ Err Reopen → tables_of new ≡ tables_of old
+    -- the vault is broken after Store and Reopen, and after no other answer
+    pub broken : is_broken new ≡ breaks result
+    -- with a Store fault the tables have failed; with any other answer that stays as it was
+    pub failing : FailsBy result (g.has_failed (tables_of old)) (g.has_failed (tables_of new))
+
   -- a vault is listed, and what is listed is so of what it contains, which stays
   pub record Lists {X : Type 0} (old new : Vault T) (result : Result X Fault) (Is : Content → X → Type 0)
       : Type 0 where
-    -- a disk that is honest after the call was so before it
-    pub disk_honest : g.is_honest (tables_of new) → g.is_honest (tables_of old)
+    pub disk_honest : WasHonest old new
     pub told : g.is_honest (tables_of new)
         → IfOk result (λ found. (V : Content) → Contains g.holds old V
         → Is V found × Contains g.holds new V)
     -- want of memory changes nothing
     pub memory : result ≡ Err Memory → (V : Content) → Contains g.holds old V → Contains g.holds new V
-    -- a vault that is broken already says so, and no other does
-    pub reopen : (result ≡ Err Reopen) ↔ (is_broken old ≡ true)
-    pub unchanged : result ≡ Err Reopen → tables_of new ≡ tables_of old
-    pub broken : is_broken new ≡ breaks result
+    pub fails : Fails old new result
     -- a crash leaves what it contained, and nothing else
     pub crash : g.is_honest (tables_of new) → (V : Content) → Contains g.holds old V
         → LeavesBy result (g.leaves (tables_of new)) V V
-    pub failing : FailsBy result (g.has_failed (tables_of old)) (g.has_failed (tables_of new))
     -- tables that can't fail don't
     pub infallible : g.may_fail ≡ false → ¬ (result ≡ Err Store)

@@ -20,13 +20,10 @@ pub fn named_rows<T: Tables>(tables: &mut T) -> Result<Vec<NamedRow>, TablesFaul
     // where the disk is honest, Ok gives the merchants of each sound vault that was held, with their rows
     ensures told { T.is_honest tables.new
         → IfOk result (λ rows. (V : Vault) → T.holds tables.old V → Sound V → rows.items ≡ merchant_rows V) }
-    // with Ok and after want of memory, each vault that was held is held still
     ensures kept { Keeps result (T.holds tables.old) (T.holds tables.new) }
     // where the disk is honest, a crash leaves each vault that was held as it was, and nothing else
     ensures crash { T.is_honest tables.new → (V : Vault) → T.holds tables.old V → T.leaves tables.new V V }
-    // with a Store fault the tables have failed; with any other answer that stays as it was
     ensures failing { FailsWith result (T.has_failed tables.old) (T.has_failed tables.new) }
-    // tables that can't fail give no Store fault
     ensures infallible { T.may_fail ≡ false → ¬ (result ≡ Err TablesFault.Store) }
 {
     let names = tables.names()?;

@@ -78,13 +78,10 @@ pub trait Tables {
         // where the disk is honest, Ok gives the merchant's row of each sound vault that was held
         ensures told { is_honest self.new
             → IfOk result (λ found. (V : Vault) → holds self.old V → Sound V → found ≡ row_at V m) }
-        // with Ok and after want of memory, each vault that was held is held still
         ensures kept { Keeps result (holds self.old) (holds self.new) }
         // where the disk is honest, a crash leaves each vault that was held as it was, and nothing else
         ensures crash { is_honest self.new → (V : Vault) → holds self.old V → leaves self.new V V }
-        // with a Store fault the tables have failed; with any other answer that stays as it was
         ensures failing { FailsWith result (has_failed self.old) (has_failed self.new) }
-        // tables that can't be refused memory aren't, and tables that can't fail don't
         ensures allowed { IsAllowed may_refuse may_fail result };
 
     /// How many merchants there are.
@@ -95,13 +92,10 @@ pub trait Tables {
         ensures told { is_honest self.new
             → IfOk result
             (λ found. (V : Vault) → holds self.old V → Sound V → found ≡ map.len V.merchants) }
-        // with Ok and after want of memory, each vault that was held is held still
         ensures kept { Keeps result (holds self.old) (holds self.new) }
         // where the disk is honest, a crash leaves each vault that was held as it was, and nothing else
         ensures crash { is_honest self.new → (V : Vault) → holds self.old V → leaves self.new V V }
-        // with a Store fault the tables have failed; with any other answer that stays as it was
         ensures failing { FailsWith result (has_failed self.old) (has_failed self.new) }
-        // tables that can't be refused memory aren't, and tables that can't fail don't
         ensures allowed { IsAllowed may_refuse may_fail result };
 
     /// The right of a caller at a merchant, with its end.
@@ -111,13 +105,10 @@ pub trait Tables {
         // where the disk is honest, Ok gives the right, or none, as each sound vault that was held has it
         ensures told { is_honest self.new
             → IfOk result (λ found. (V : Vault) → holds self.old V → Sound V → found ≡ right_at V c m r) }
-        // with Ok and after want of memory, each vault that was held is held still
         ensures kept { Keeps result (holds self.old) (holds self.new) }
         // where the disk is honest, a crash leaves each vault that was held as it was, and nothing else
         ensures crash { is_honest self.new → (V : Vault) → holds self.old V → leaves self.new V V }
-        // with a Store fault the tables have failed; with any other answer that stays as it was
         ensures failing { FailsWith result (has_failed self.old) (has_failed self.new) }
-        // tables that can't be refused memory aren't, and tables that can't fail don't
         ensures allowed { IsAllowed may_refuse may_fail result };
 
     /// The record of a caller's request.
@@ -127,13 +118,10 @@ pub trait Tables {
         // where the disk is honest, Ok gives the record, or none, as each sound vault that was held has it
         ensures told { is_honest self.new
             → IfOk result (λ found. (V : Vault) → holds self.old V → Sound V → found ≡ record_at V c n) }
-        // with Ok and after want of memory, each vault that was held is held still
         ensures kept { Keeps result (holds self.old) (holds self.new) }
         // where the disk is honest, a crash leaves each vault that was held as it was, and nothing else
         ensures crash { is_honest self.new → (V : Vault) → holds self.old V → leaves self.new V V }
-        // with a Store fault the tables have failed; with any other answer that stays as it was
         ensures failing { FailsWith result (has_failed self.old) (has_failed self.new) }
-        // tables that can't be refused memory aren't, and tables that can't fail don't
         ensures allowed { IsAllowed may_refuse may_fail result };
 
     /// What a merchant's token stands for.
@@ -143,13 +131,10 @@ pub trait Tables {
         // where the disk is honest, Ok gives the entry, or none, as each sound vault that was held has it
         ensures told { is_honest self.new
             → IfOk result (λ found. (V : Vault) → holds self.old V → Sound V → found ≡ entry_at V m t) }
-        // with Ok and after want of memory, each vault that was held is held still
         ensures kept { Keeps result (holds self.old) (holds self.new) }
         // where the disk is honest, a crash leaves each vault that was held as it was, and nothing else
         ensures crash { is_honest self.new → (V : Vault) → holds self.old V → leaves self.new V V }
-        // with a Store fault the tables have failed; with any other answer that stays as it was
         ensures failing { FailsWith result (has_failed self.old) (has_failed self.new) }
-        // tables that can't be refused memory aren't, and tables that can't fail don't
         ensures allowed { IsAllowed may_refuse may_fail result };
 
     /// The multi-use token of a card number that is live at a moment, which isn't before the merchant's.
@@ -161,13 +146,10 @@ pub trait Tables {
         ensures told { is_honest self.new
             → IfOk result (λ found. (V : Vault) → holds self.old V → Sound V → moment_at V m at ≡ at
             → found ≡ option_map (λ held. held.0) (current V m p at)) }
-        // with Ok and after want of memory, each vault that was held is held still
         ensures kept { Keeps result (holds self.old) (holds self.new) }
         // where the disk is honest, a crash leaves each vault that was held as it was, and nothing else
         ensures crash { is_honest self.new → (V : Vault) → holds self.old V → leaves self.new V V }
-        // with a Store fault the tables have failed; with any other answer that stays as it was
         ensures failing { FailsWith result (has_failed self.old) (has_failed self.new) }
-        // tables that can't be refused memory aren't, and tables that can't fail don't
         ensures allowed { IsAllowed may_refuse may_fail result };
 
     /// The first `limit` tokens of a merchant that are dead at the later of its moment and `now`, in
@@ -179,11 +161,9 @@ pub trait Tables {
         ensures told { is_honest self.new
             → IfOk result (λ tokens. (V : Vault) → holds self.old V → Sound V
             → tokens.items ≡ take limit (dead_tokens V m now)) }
-        // with Ok and after want of memory, each vault that was held is held still
         ensures kept { Keeps result (holds self.old) (holds self.new) }
         // where the disk is honest, a crash leaves each vault that was held as it was, and nothing else
         ensures crash { is_honest self.new → (V : Vault) → holds self.old V → leaves self.new V V }
-        // with a Store fault the tables have failed; with any other answer that stays as it was
         ensures failing { FailsWith result (has_failed self.old) (has_failed self.new) }
         // tables that can't fail give no Store fault
         ensures infallible { FailsOnlyIf may_fail result };
@@ -196,11 +176,9 @@ pub trait Tables {
         ensures told { is_honest self.new
             → IfOk result (λ found. (V : Vault) → holds self.old V → Sound V
             → found.items ≡ merchant_names V) }
-        // with Ok and after want of memory, each vault that was held is held still
         ensures kept { Keeps result (holds self.old) (holds self.new) }
         // where the disk is honest, a crash leaves each vault that was held as it was, and nothing else
         ensures crash { is_honest self.new → (V : Vault) → holds self.old V → leaves self.new V V }
-        // with a Store fault the tables have failed; with any other answer that stays as it was
         ensures failing { FailsWith result (has_failed self.old) (has_failed self.new) }
         // tables that can't fail give no Store fault
         ensures infallible { FailsOnlyIf may_fail result };
@@ -213,11 +191,9 @@ pub trait Tables {
         ensures told { is_honest self.new
             → IfOk result (λ found. (V : Vault) → holds self.old V → Sound V
             → found.items ≡ map.entries V.rights) }
-        // with Ok and after want of memory, each vault that was held is held still
         ensures kept { Keeps result (holds self.old) (holds self.new) }
         // where the disk is honest, a crash leaves each vault that was held as it was, and nothing else
         ensures crash { is_honest self.new → (V : Vault) → holds self.old V → leaves self.new V V }
-        // with a Store fault the tables have failed; with any other answer that stays as it was
         ensures failing { FailsWith result (has_failed self.old) (has_failed self.new) }
         // tables that can't fail give no Store fault
         ensures infallible { FailsOnlyIf may_fail result };
@@ -241,7 +217,6 @@ pub trait Tables {
         // without them or with them
         ensures crash { is_honest self.new → (V : Vault) → holds self.old V → Sound V → Fit V ch.now
             → leaves self.new V (plus V ch.now) }
-        // with a Store fault the tables have failed; with any other answer that stays as it was
         ensures failing { FailsWith result (has_failed self.old) (has_failed self.new) }
         // tables that can't fail give no Store fault
         ensures infallible { FailsOnlyIf may_fail result };

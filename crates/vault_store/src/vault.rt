@@ -1,7 +1,7 @@
 //! The vault: commands that are decided, and written before they are answered.
-ghost use Rattle.std.specs.Prelude.{◌≡◌, ◌↔◌, ◌||◌, false, true, Err, IfOk, take};
+ghost use Rattle.std.specs.Prelude.{◌≡◌, ◌||◌, false, true, Err, IfOk, take};
 ghost use Rattle.std.specs.FinMap as map;
-ghost use Rattle.vault_store.specs.LookUps.{Lists};
+ghost use Rattle.vault_store.specs.LookUps.{Fails, Lists, WasHonest};
 ghost use Rattle.vault_core.specs.Dead.{dead_tokens};
 ghost use Rattle.vault_core.specs.Proper.{HasLivesInRange};
 ghost use Rattle.vault_core.specs.Sound.{Sound};
@@ -60,7 +60,7 @@ pub struct Vault<T> {
 }
 
 impl<T: Tables> Vault<T> {
-    ghost use Rattle.vault_store.specs.Applied.{Contains, FailsBy, IsAllowedFault, breaks, is_broken};
+    ghost use Rattle.vault_store.specs.Applied.{Contains, IsAllowedFault, is_broken};
     ghost use Rattle.vault_store.specs.Applied.{is_store, tables_fault, tables_of};
 
     /// The vault that tables hold. Nothing is promised of tables that hold no sound vault.
@@ -83,8 +83,7 @@ impl<T: Tables> Vault<T> {
     /// without an answer is `Undecided`.
     pub fn apply(&mut self, c: &Command) -> Result<Reply, Fault>
         requires { HasLivesInRange c.now }
-        // a disk that is honest after the call was so before it
-        ensures disk_honest { T.is_honest (tables_of self.new) → T.is_honest (tables_of self.old) }
+        ensures disk_honest { WasHonest T.Tables self.old self.new }
         // where the disk is honest, Ok gives the reply of a vault that was contained, and the vault after the
         // command is contained
         ensures answered { T.is_honest (tables_of self.new)
@@ -93,25 +92,17 @@ impl<T: Tables> Vault<T> {
         // after want of memory, each vault that was contained is contained still
         ensures memory { result ≡ Err Fault.Memory → (V : Content) → Contains T.holds self.old V
             → Contains T.holds self.new V }
-        // a vault that is broken already answers Reopen, and no other does
-        ensures reopen { (result ≡ Err Fault.Reopen) ↔ (is_broken self.old ≡ true) }
-        // with Reopen, the tables stay as they were
-        ensures unchanged { result ≡ Err Fault.Reopen → tables_of self.new ≡ tables_of self.old }
-        // the vault is broken after Store and Reopen, and after no other answer
-        ensures broken { is_broken self.new ≡ breaks result }
+        // a vault that is broken already answers Reopen, and a Store fault breaks it
+        ensures fails { Fails T.Tables self.old self.new result }
         // where the disk is honest, a crash leaves the vault after the command with Ok, before it with
         // Memory, and either with Store
         ensures crash { T.is_honest (tables_of self.new) → (V : Content) → Contains T.holds self.old V
             → LeavesBy result (T.leaves (tables_of self.new)) V (after_lem V c.now) }
-        // with a Store fault the tables have failed; with any other answer that stays as it was
-        ensures failing { FailsBy result (T.has_failed (tables_of self.old))
-            (T.has_failed (tables_of self.new)) }
         // where the disk is honest, a command that adds nothing to an unbroken vault meets only faults that
         // its tables can have
         ensures allowed { is_broken self.old ≡ false → T.is_honest (tables_of self.new)
             → (V : Content) → Contains T.holds self.old V → AddsNothing V (after_lem V c.now)
             → IsAllowedFault T.may_refuse T.may_fail result }
-        // tables that can't fail give no Store fault
         ensures infallible { T.may_fail ≡ false → ¬ (result ≡ Err Fault.Store) }
     {
         if self.broken {
@@ -229,14 +220,12 @@ fn answer<T: Tables>(tables: &mut T, c: &Command) -> Result<Reply, TablesFault>
     // where the disk is honest, a crash leaves a sound vault that was held, before the command or after it
     ensures crash { T.is_honest tables.new → (V : Content) → T.holds tables.old V → Sound V
         → T.leaves tables.new V (after_lem V c.now) }
-    // with a Store fault the tables have failed; with any other answer that stays as it was
     ensures failing { FailsWith result (T.has_failed tables.old) (T.has_failed tables.new) }
     // where the disk is honest, a command that adds nothing to a held sound vault meets only faults that the
     // tables can have
     ensures allowed { T.is_honest tables.new → (V : Content) → T.holds tables.old V → Sound V
         → AddsNothing V (after_lem V c.now)
         → IsAllowed T.may_refuse T.may_fail result }
-    // tables that can't fail give no Store fault
     ensures infallible { T.may_fail ≡ false → ¬ (result ≡ Err TablesFault.Store) }
 {
     let parts = Parts::of(c);

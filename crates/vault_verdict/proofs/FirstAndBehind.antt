@@ -9,7 +9,7 @@ use Rattle.vault_schema.specs.Versioned.{HasVersion}
 use Rattle.vault_schema.specs.declared.version.Version.{Version}
 use Rattle.vault_verdict.proofs.Judged.{AreRead, all_of, are_read}
 use Rattle.vault_verdict.specs.Faults.{IsJudged}
-use Rattle.vault_verdict.specs.Judging.{AreOnward, IsUnjudged, IsVerdictOf, Judges, JudgesAll, sizes_in}
+use Rattle.vault_verdict.specs.Judging.{AreOnward, IsUnjudged, IsVerdictOf, Judges, JudgesAll, first_rows, sizes_in}
 use Rattle.vault_verdict.specs.Opened.{AreVersions}
 use Rattle.vault_verdict.specs.ReadAs.{IsFullIn}
 use Rattle.vault_verdict.specs.Reading.{AreCardsIn, AreFirst, IsUnreadOne}
@@ -71,9 +71,10 @@ module _ {S : Type 0} (g : Ghosts S) (v : Version) (old mid new : Held S)
             olders,
             rows,
             subst (AreCardsIn v (state g old).now olders) (sym it.2.cards) are,
-            subst (λ x. AreOnward v olders versions merchants counts x (state g old).now rows)
+            subst (λ x. AreOnward v olders (first_rows versions merchants counts x) (state g old).now rows)
                 (sym it.2.cards)
-                (subst (λ db. AreOnward v olders versions merchants counts cards db rows) same.0.now_is it.2),
+                (subst (λ db. AreOnward v olders (first_rows versions merchants counts cards) db rows)
+                same.0.now_is it.2),
             it.3,
             stays,
           )
@@ -96,7 +97,7 @@ module _ {S : Type 0} (g : Ghosts S) (v : Version) (versions : List RawVersion)
   AreJudged result =
       IsUnchanged (state g old) (state g new) × (olders : List OldEntry) × (rows : Rows)
       × AreCardsIn v (state g old).now olders rows.cards
-      × AreOnward v olders versions merchants counts rows.cards (state g old).now rows
+      × AreOnward v olders (first_rows versions merchants counts rows.cards) (state g old).now rows
       × IsVerdictOf rows (sizes_in result) × IfOk result (λ it. it.olders.items ≡ olders)
 
   -- what came out well, and what was judged, was read
@@ -119,11 +120,13 @@ pub read_onward : (v : Version) (old mid last : State) (versions : List RawVersi
     → (HasVersion old.now.schema → IsDatabase old.now)
     → (HasVersion old.now.schema → AreVersions old.now.trees versions) → last.now ≡ mid.now
     → AreFirst v mid.now first → AreCardsIn v last.now olders rows.cards
-    → AreOnward v olders versions first.merchants.items first.counts.items rows.cards last.now rows
+    → AreOnward v olders (first_rows versions first.merchants.items first.counts.items rows.cards) last.now
+    rows
     → IsFullIn v old.now → AreRead v old.now olders rows
 read_onward v old mid last versions first olders rows same sound are now firsts cards onward ours =
     are_read v old mid versions olders rows onward.versions same sound are
     (λ has. all_of v mid.now first olders versions rows firsts
     (subst (λ db. AreCardsIn v db olders rows.cards) now cards)
-    (subst (λ db. AreOnward v olders versions first.merchants.items first.counts.items rows.cards db rows) now
+    (subst (λ db. AreOnward v olders (first_rows versions first.merchants.items first.counts.items rows.cards)
+    db rows) now
     onward)) ours

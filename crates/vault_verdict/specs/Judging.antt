@@ -35,14 +35,24 @@ pub record IsVerdictOf (rows : Rows) (result : Result Sizes OpenFault) : Type 0 
   pub shared : IfErr result (λ e. e ≡ Store → AreByRowid rows → ¬ AreApart rows)
   pub unbroken : IfErr result (λ e. e ≡ Store → (r : ℕ) → keeps rows r ≡ true)
 
+-- the rows that are read first
+pub record FirstRows : Type 0 where
+  pub versions : List RawVersion
+  pub merchants : List RawMerchant
+  pub counts : List RawCount
+  pub cards : List RawCard
+
+abbrev pub first_rows : List RawVersion → List RawMerchant → List RawCount → List RawCard → FirstRows
+first_rows versions merchants counts cards =
+    record { versions = versions; merchants = merchants; counts = counts; cards = cards }
+
 -- these rows are those that were read, and all behind them
-pub record AreOnward (v : Version) (olders : List OldEntry) (versions_read : List RawVersion)
-    (merchants_read : List RawMerchant) (counts_read : List RawCount) (cards_read : List RawCard)
-    (db : Database) (rows : Rows) : Type 0 where
-  pub versions : rows.versions ≡ versions_read
-  pub merchants : rows.merchants ≡ merchants_read
-  pub counts : rows.counts ≡ counts_read
-  pub cards : rows.cards ≡ cards_read
+pub record AreOnward (v : Version) (olders : List OldEntry) (first : FirstRows) (db : Database) (rows : Rows)
+    : Type 0 where
+  pub versions : rows.versions ≡ first.versions
+  pub merchants : rows.merchants ≡ first.merchants
+  pub counts : rows.counts ≡ first.counts
+  pub cards : rows.cards ≡ first.cards
   pub entries : AreEntriesIn v db olders rows.entries
   pub records : AreTable IsAny (λ t. t 8) record_values (λ r. r.rowid) db rows.records
   pub rights : AreTable (AreRightsFull v) (rights_in v) right_values (λ r. r.rowid) db rows.rights
@@ -65,7 +75,8 @@ module _ {S : Type 0} (g : Ghosts S) (v : Version) where
     Judges olders cards result old new =
         IsUnjudged result old new
         ⊎ (IsUnchanged (state g old) (state g new) × (rows : Rows)
-        × AreOnward v olders versions merchants counts cards (state g old).now rows × IsVerdictOf rows result)
+        × AreOnward v olders (first_rows versions merchants counts cards) (state g old).now rows × IsVerdictOf
+        rows result)
 
     -- so it is of the rows behind the counts, with the entries of schema 1
     abbrev pub JudgesAll : Result Judged OpenFault → Held S → Held S → Type 0
@@ -73,5 +84,5 @@ module _ {S : Type 0} (g : Ghosts S) (v : Version) where
         IsUnjudged result old new
         ⊎ (IsUnchanged (state g old) (state g new) × (olders : List OldEntry) × (rows : Rows)
         × AreCardsIn v (state g old).now olders rows.cards
-        × AreOnward v olders versions merchants counts rows.cards (state g old).now rows
+        × AreOnward v olders (first_rows versions merchants counts rows.cards) (state g old).now rows
         × IsVerdictOf rows (sizes_in result) × IfOk result (λ it. it.olders.items ≡ olders))

@@ -1,5 +1,5 @@
 -- What a refusal says beside its number, and what it leaves.
-use Rattle.std.specs.Prelude.{◌≡◌, ◌≢◌, ◌≤◌, ℕ, ℤ, false, Result, IfErr, OnOk}
+use Rattle.std.specs.Prelude.{◌≡◌, ◌≢◌, ◌≤◌, ℕ, ℤ, pos, false, Result, Err, IfErr, IsErrAnd, OnOk}
 use Rattle.sqlite.specs.Effect.{Database}
 use Rattle.sqlite.specs.Held.{Held, state}
 use Rattle.sqlite.specs.State.{HasCleanDisk, IsUnchanged}
@@ -13,7 +13,7 @@ use Rattle.vault_schema.specs.declared.version.Version.{Version}
 use Rattle.vault_verdict.specs.Faults.{IsJudged}
 use Rattle.vault_verdict.specs.Names.{IsForeign, IsMixed, vault_names}
 use Rattle.vault_verdict.specs.Opened.{IsBrokenIn, IsFit, IsLeastBroken, IsNoRefusal, IsVersionIn, IsWrong}
-use Rattle.vault_verdict.specs.Opened.{LeavesFound, Opens}
+use Rattle.vault_verdict.specs.Opened.{IsNoDamage, LeavesFound, Opens}
 use Rattle.vault_verdict.specs.ReadAs.{IsFullIn}
 use Rattle.vault_verdict.specs.Reading.{IsFull, IsOurs, IsQuietWhere, IsUnreadFile}
 use Rattle.vault_verdict.specs.declared.fault.OpenFault.{OpenFault}
@@ -108,6 +108,13 @@ module _ {S : Type 0} (g : Ghosts S) where
   abbrev pub IsStillWhereSome : Held S → Held S → Type 0
   IsStillWhereSome old new = ¬ ((state g old).now.schema ≡ no_schema) → IsStillVersioned old new
 
+  -- A crash leaves what was found, a disk that is honest after the call was so before it, and the connection
+  -- is outside a transaction.
+  pub record LeavesIdle (old new : Held S) : Type 0 where
+    pub left : LeavesAsFound old new
+    pub clean : doubt (state g old).is_clean ≤ doubt (state g new).is_clean
+    pub idle : new.in_transaction ≡ false
+
   -- A database is refused by this, and the connection goes on so. 31 says the least rule that full rows
   -- break, 30 another version that is told, or 0; 33 comes to a database in the newest schema, with full
   -- rows, only where a table isn't read; neither 30 nor 31 comes to a sound vault, or to a database without a
@@ -119,13 +126,32 @@ module _ {S : Type 0} (g : Ghosts S) where
     pub unread : HasCleanDisk (state g new) → why ≡ Store → IsOurs (state g old).now
         → IsUnreadFile g (state g old).now new
     pub spared : HasCleanDisk (state g new) → IsFit (state g old).now → IsNoRefusal why
-    pub left : LeavesAsFound old new
     -- after 30 and 31 the connection sees what it saw, where the database has a version
     pub unchanged : HasCleanDisk (state g new) → IsJudged why → HasVersion (state g old).now.schema
         → IsUnchanged (state g old) (state g new)
     pub nothing_new : IsStillWhereSome old new
+    pub leaves : LeavesIdle old new
+
+  -- What 30, 31 and 33 say of the rows: 31 the least rule that full rows break, 30 another version that is
+  -- told, or 0; neither comes to a sound vault, or to a database without a table.
+  pub record JudgesRows {R : Type 0} (old new : Held S) (result : Result R OpenFault) : Type 0 where
+    pub damaged : RowsBreak old new result IsLeastWhereFull
+    pub wrong : TellsOther old new result IsWrong
+    pub spared : SparesFit old new result IsFit
+
+  -- A schema that is neither the newest nor empty is refused, and not by 31. Without a version it is refused
+  -- by 30 with 0 where a vault's names are mixed, else by 33, and nothing changes.
+  pub record RefusesForeign {R : Type 0} (old new : Held S) (result : Result R OpenFault) : Type 0 where
+    pub refused : IsForeign (state g old).now.schema → IsErrAnd result IsNoDamage
+    pub mixed : WhereMixed (state g old).now ((result ≡ Err (WrongSchema (pos 0))) × (new ≡ old))
+    pub strange : WhereStrange (state g old).now ((result ≡ Err Store) × (new ≡ old))
+
+  -- A vault is open that was there, or the empty one; a crash leaves what was found, and a disk that is
+  -- honest now was so before.
+  pub record OpensFile (old new : Held S) : Type 0 where
+    pub opens : HasCleanDisk (state g new) → Opens (state g old) (state g new)
+    pub left : LeavesAsFound old new
     pub clean : doubt (state g old).is_clean ≤ doubt (state g new).is_clean
-    pub idle : new.in_transaction ≡ false
 
   -- a refusal by any number but 33 writes nothing
   abbrev pub WritesNothing : {R : Type 0} → Held S → Held S → Result R OpenFault → Type 0

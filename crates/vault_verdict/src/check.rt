@@ -1,19 +1,15 @@
 //! The whole check of a file.
-ghost use Rattle.std.specs.Prelude.{◌≡◌, ◌⊎◌, pos, Err, IfOk, IsErrAnd};
+ghost use Rattle.std.specs.Prelude.{◌≡◌, ◌⊎◌, IfOk};
 ghost use Rattle.sqlite.specs.Held.{state};
 ghost use Rattle.sqlite.specs.State.{HasCleanDisk};
 ghost use Rattle.vault_core.specs.Vault.{empty_vault};
-ghost use Rattle.vault_verdict.specs.Names.{IsForeign};
-ghost use Rattle.vault_verdict.specs.Opened.{IsFit, IsNoDamage, IsSoundOf};
-ghost use Rattle.vault_verdict.specs.Opened.{IsWrong};
+ghost use Rattle.vault_verdict.specs.Opened.{IsSoundOf};
 ghost use Rattle.vault_verdict.specs.Reading.{IsFull};
 ghost use Rattle.vault_verdict.specs.Sizes.{sizes_of};
 ghost use Rattle.sql_tables.specs.Schema.{no_schema};
 ghost use Rattle.vault_schema.specs.Versions.{newest};
-ghost use Rattle.vault_verdict.specs.Refusals.{IsLeastWhereFull, IsStillVersioned, IsUntouched};
-ghost use Rattle.vault_verdict.specs.Refusals.{LeavesVersionSeen};
-ghost use Rattle.vault_verdict.specs.Refusals.{RowsBreak, SparesFit, TellsOther, TellsUnread, WhereMixed};
-ghost use Rattle.vault_verdict.specs.Refusals.{WhereStrange};
+ghost use Rattle.vault_verdict.specs.Refusals.{IsStillVersioned, IsUntouched, JudgesRows};
+ghost use Rattle.vault_verdict.specs.Refusals.{LeavesVersionSeen, RefusesForeign, TellsUnread};
 ghost use Rattle.vault_schema.specs.Versioned.{HasVersion};
 
 use crate::fault::OpenFault;
@@ -41,25 +37,15 @@ pub fn check<S: Alter>(alloc: Global, conn: &mut Connection<S>) -> Result<Sizes,
         → IfOk result (λ sizes. IsFull (state S.Store conn.old).now
         → ((state S.Store conn.old).now.schema ≡ no_schema) × (sizes ≡ sizes_of empty_vault)
         ⊎ IsSoundOf (state S.Store conn.old).now sizes) }
-    // on an honest disk, 31 says the least rule that the rows break, where they are full
-    ensures damaged { RowsBreak S.Store conn.old conn.new result IsLeastWhereFull }
-    // on an honest disk, 30 says another version that the database tells, or 0 where a vault's names are
-    // mixed
-    ensures wrong { TellsOther S.Store conn.old conn.new result IsWrong }
+    // on an honest disk, 31, 30 and neither are told of the rows
+    ensures rows { JudgesRows S.Store conn.old conn.new result }
     // on an honest disk, 33 comes to a vault's tables with full rows only where one isn't read or a rowid
     // comes twice
     ensures unread { TellsUnread S.Store conn.old conn.new result }
-    // on an honest disk, neither 30 nor 31 comes to a sound vault or to a database without a table
-    ensures spared { SparesFit S.Store conn.old conn.new result IsFit }
-    // a foreign schema without a version, in which a vault's names are mixed, gives 30 with 0
-    ensures mixed { WhereMixed (state S.Store conn.old).now
-        (result ≡ Err (OpenFault.WrongSchema (pos 0))) }
-    // a foreign schema without a version, in which a vault's names aren't mixed, gives 33
-    ensures strange { WhereStrange (state S.Store conn.old).now (result ≡ Err OpenFault.Store) }
+    // a schema that is neither the newest nor empty is refused
+    ensures foreign { RefusesForeign S.Store conn.old conn.new result }
     // with Ok, on an honest disk, nothing changed in the newest schema
     ensures kept { IsUntouched S.Store newest conn.old conn.new result }
-    // a schema that is neither the newest nor empty is refused, and not by 31
-    ensures foreign { IsForeign (state S.Store conn.old).now.schema → IsErrAnd result IsNoDamage }
     // on an honest disk, after 30 and 31 the connection sees what it saw, where the schema has a version
     ensures unchanged { LeavesVersionSeen S.Store conn.old conn.new result }
     // where the schema has no version, the connection is as it was

@@ -51,7 +51,6 @@ pub(crate) fn judge(versions: &[RawVersion], behind: &Behind) -> Result<Sizes, O
     // this is the verdict on the rows that were taken: their sizes, or 31 with the least rule that they
     // break, or 33
     ensures verdict { (rows : Rows) → HasJudged rows versions.now behind.now → IsVerdictOf rows result }
-    // it isn't refused by 30
     ensures versioned { TellsNoVersion result }
 {
     let records = &behind.records;

@@ -52,7 +52,6 @@ fn judge_behind<'a, S: Alter>(
         → (cards : List CardRow) → HoldCards index.entry.merchants.now index.entry.cards cards
         → Judges S.Store version versions.now index.entry.merchants.now index.entry.counts.now olders.now
         cards result conn.old conn.new }
-    // it isn't refused by 30
     ensures versioned { TellsNoVersion result }
     // in the version's schema, on an honest disk, a crash leaves nothing new; no doubt goes away, and no
     // transaction begins
@@ -77,7 +76,6 @@ fn judge_cards<'a, S: Alter>(
         → HoldCards index.entry.merchants.now index.entry.cards []
         → JudgesAll S.Store version versions.now index.entry.merchants.now index.entry.counts.now result
         conn.old conn.new }
-    // it isn't refused by 30
     ensures versioned { TellsNoVersion result }
     // in the version's schema, on an honest disk, a crash leaves nothing new; no doubt goes away, and no
     // transaction begins
@@ -102,7 +100,6 @@ fn judge_first<S: Alter>(
         → (state S.Store conn.old).now.schema ≡ schema_of version
         → JudgesAll S.Store version versions.now first.now.merchants.items first.now.counts.items result
         conn.old conn.new }
-    // it isn't refused by 30
     ensures versioned { TellsNoVersion result }
     // in the version's schema, on an honest disk, a crash leaves nothing new; no doubt goes away, and no
     // transaction begins

@@ -1,7 +1,6 @@
 //! `check`: the whole check of a file.
-ghost use Rattle.std.specs.Prelude.{◌≡◌};
-ghost use Rattle.vault_wire.specs.Watching.{inner_of, is_stopped};
 ghost use Rattle.vault_app.specs.Commands.Check.{TellsSizes};
+ghost use Rattle.vault_jobs.specs.Streams.{output_of};
 
 use crate::ending::Ending;
 use crate::line::{end_beside, end_with};
@@ -19,8 +18,7 @@ pub(crate) fn tell_sizes<W: Write>(
     has_log: bool,
     output: &mut Watched<W>,
 ) -> Ending
-    ensures { TellsSizes has_log checked result (output.new ≡ output.old) (W.contents (inner_of output.old))
-        (W.contents (inner_of output.new)) (is_stopped output.new) }
+    ensures { TellsSizes has_log checked result (output_of W.contents output.old output.new) }
 {
     let sizes = match checked {
         Ok(sizes) => sizes,

@@ -1,8 +1,8 @@
 //! `migrate`: a file moves to the newest schema.
 ghost use Rattle.std.specs.Prelude.{◌≡◌, IfOk, IsTrue};
 ghost use Rattle.vault_schema.specs.Versions.{newest, number_of};
-ghost use Rattle.vault_wire.specs.Watching.{inner_of, is_stopped};
 ghost use Rattle.vault_app.specs.Commands.Migrate.{TellsMoved};
+ghost use Rattle.vault_jobs.specs.Streams.{output_of};
 
 use crate::ending::Ending;
 use crate::line::{end_beside, end_with};
@@ -36,8 +36,7 @@ pub(crate) fn tell_moved<W: Write>(
     requires { IfOk moved (λ version. version ≡ number_of newest) }
     // with Ok, the line of the newest schema went out, or the writer failed; with Err, it ends by that, and
     // nothing went out
-    ensures { TellsMoved was_empty moved result (output.new ≡ output.old) (W.contents (inner_of output.old))
-        (W.contents (inner_of output.new)) (is_stopped output.new) }
+    ensures { TellsMoved was_empty moved result (output_of W.contents output.old output.new) }
 {
     let version = match moved {
         Ok(version) => version,

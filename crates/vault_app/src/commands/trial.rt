@@ -1,9 +1,8 @@
 //! `trial`: messages answered by a vault in memory.
-ghost use Rattle.std.specs.Prelude.{◌≡◌, IfOk, MatchResult};
+ghost use Rattle.std.specs.Prelude.{IfOk, MatchResult};
 ghost use Rattle.vault_core.specs.Scalar.{IsLife};
-ghost use Rattle.vault_wire.specs.Watching.{inner_of};
 ghost use Rattle.vault_words.specs.declared.jobs.Job.{Job};
-ghost use Rattle.vault_jobs.specs.Streams.{Streams, streams};
+ghost use Rattle.vault_jobs.specs.Streams.{streams};
 ghost use Rattle.vault_app.specs.World.{told};
 ghost use Rattle.vault_app.specs.Plans.{EndsBefore};
 ghost use Rattle.vault_app.specs.Commands.Trial.{IsTrialOf, TrialEnds};
@@ -61,8 +60,8 @@ pub(crate) fn serve<K: Timekeeper, R: Read, W: Write>(
     requires { IsLife trial.now.life }
     // with Done, the messages are answered as in a trial; at a stop, which Store never is, a beginning of the
     // answers went out
-    ensures { let s : Streams = streams R.remaining input.old input.new W.contents output.old output.new in
-        TrialEnds (K.tells time.now) trial.now result s }
+    ensures { TrialEnds (K.tells time.now) trial.now result
+        (streams R.remaining input.old input.new W.contents output.old output.new) }
 {
     match serve_trial(rt, time, trial, input, output) {
         Ok(()) => Ending::Done,

@@ -2,13 +2,12 @@ use Rattle.std.proofs.Common.{◌≡◌, [], Some, ap, inl, inr, refl, subst, sy
 use Rattle.vault_file.specs.declared.fault.NotOpened.TheVariants as file
 use Rattle.vault_verdict.specs.declared.fault.OpenFault.TheVariants.{Memory}
 use Rattle.vault_jobs.proofs.Parts.{unlinked}
-use Rattle.vault_jobs.specs.Streams.{Streams, streams, with_turns}
+use Rattle.vault_jobs.specs.Streams.{Streams, seen_as, streams, with_turns}
 use Rattle.vault_listen.proofs.ServedConnections.{none_then}
 use Rattle.vault_sql.proofs.Remembering.{nothing_is}
 use Rattle.vault_sql.specs.Held.{Know}
 use Rattle.vault_sql.specs.Places.{IsPast}
 use Rattle.vault_sql.specs.Remembered.{IsOf}
-use Rattle.vault_store.specs.Applied.{is_broken}
 use Rattle.vault_app.proofs.Files.{ended, refused_file, works}
 use Rattle.vault_app.specs.Files.{EndsOnFile}
 use Rattle.vault_app.specs.World.{World, outside_in, world_at}
@@ -26,9 +25,8 @@ returns-in-Err-open_vault g c =
       does = unlinked (g.N.Network.tells c.args.network.now) _ (refused_file world c.args.path.now
           (c.args.input.now ≡ c.args.input.now) (c.args.output.now ≡ c.args.output.now) s
           c.in-Err-open_vault.left
-          c.args.task.now c.in-Err-open_vault.fault told.refused told.refused_there told.spared told.tells
-          told.left
-          told.same refl refl);
+          c.args.task.now c.in-Err-open_vault.fault told.refused told.refused_there told.rightly
+          told.left told.same refl refl);
     }
 
 pub returns-in-Ok-true : goal.returns-in-Ok-true
@@ -82,7 +80,7 @@ returns g c =
       does = (
         it.0,
         it.1,
-        subst (λ e. EndsOnFile world c.args.path.now (Some left) c.args.task.now e unread unsent s)
+        subst (λ e. EndsOnFile world c.args.path.now (Some left) c.args.task.now e (seen_as unread unsent s))
             (sym c.ending_of.ensures)
             (ended world c.args.path.now unread unsent s left c.args.task.now c.do_task-outcome.result.0
             c.do_task-outcome.result.1
@@ -90,7 +88,7 @@ returns g c =
             (world.holds c.args.path.now) c.in-Ok.vault
             c.do_task-outcome.new.vault left c.args.task.now c.do_task-outcome.result.0
             c.do_task-outcome.result.1
-            (is_broken c.do_task-outcome.new.vault) unread unsent s c.in-Ok.ensures.found (
+            unread unsent s c.in-Ok.ensures.found (
               fresh.1.0,
               λ V. (
                 subst (λ place. IsPast place V) (sym fresh.1.1) tt,

@@ -17,7 +17,7 @@ returns-in-Ok g c =
     c.args.paths in
     let told = c.check_file-checked.ensures in
     let is = checked world c.in-Check.path.now c.check_file-checked.result.1 c.check_file-checked.result.0
-    told.empty told.refused told.refused_there told.sound told.spared told.tells told.same told.left in
+    told.empty told.refused told.refused_there told.sound told.rightly told.same told.left in
     rw c.in-Check.is (record {
       does = unlinked (g.N.Network.tells c.args.network.now) _ (
         refl,
@@ -43,7 +43,7 @@ returns-in-Migrate g c =
     c.args.paths in
     let told = c.migrate_file-moved.ensures in
     let is = moved world c.in-Migrate.path.now c.migrate_file-moved.result.1 c.migrate_file-moved.result.0
-    told.refused told.refused_there told.moved told.left told.tells told.stays told.same told.same_unmoved in
+    told.refused told.refused_there told.moved told.left in
     rw c.in-Migrate.is (record {
       does = unlinked (g.N.Network.tells c.args.network.now) _ (
         refl,

@@ -1,5 +1,5 @@
 use Rattle.std.proofs.Common.{◌≡◌, [], inl, inr, refl, subst}
-use Rattle.vault_jobs.specs.Streams.{streams, with_turns}
+use Rattle.vault_jobs.specs.Streams.{seen_as, streams, with_turns}
 use Rattle.vault_listen.proofs.ServedConnections.{none_then}
 use Rattle.vault_app.specs.Jobs.{DoesPlan}
 use Rattle.vault_app.specs.World.{World, world_at}
@@ -25,9 +25,9 @@ returns-in-Ok-clause-does g c =
               c.args.paths asked.0 c.in-Ok.plan asked.2,
           c.in-Ok.ensures.proper,
           subst (λ o. DoesPlan world c.carry_out-ending.result.1 c.in-Ok.plan c.carry_out-ending.result.0
-              (c.carry_out-ending.new.input ≡ c.args.input.now) (c.carry_out-ending.new.output ≡ o)
+              (seen_as (c.carry_out-ending.new.input ≡ c.args.input.now) (c.carry_out-ending.new.output ≡ o)
               (with_turns (streams g.R.Read.remaining c.args.input.now c.carry_out-ending.new.input
-              g.W.Write.contents o c.carry_out-ending.new.output) it.0)) c.in-Ok.ensures.planned.0 it.2,
+              g.W.Write.contents o c.carry_out-ending.new.output) it.0))) c.in-Ok.ensures.planned.0 it.2,
         ),
       ),
     )

@@ -35,7 +35,7 @@ returns-clause-unread g c = λ at.
 pub returns-clause-unsent : goal.returns-clause-unsent
 returns-clause-unsent g c = λ at.
     let end = status_at c.ended-it.result.0.ending _ c.report.ensures.status at in
-    said_at _ c.ended-it.result.0.ending _ _ _ _ end c.report.ensures.said
+    said_at _ c.ended-it.result.0.ending _ _ end c.report.ensures.said
     ∙ (calm_at _ _ _ _ _ _ c.ended-it.result.0.ending end c.ended-it.ensures.does.2).1
 
 pub returns-clause-unread_refused : goal.returns-clause-unread_refused
@@ -43,9 +43,9 @@ returns-clause-unread_refused g c = λ one. refused_at _ _ _ _ _ _ c.ended-it.re
     (sym c.report.ensures.status ∙ one) c.ended-it.ensures.does.2
 
 pub returns-clause-silent_done : goal.returns-clause-silent_done
-returns-clause-silent_done g c = λ zero. noted_at _ _ _ _ _ _ c.ended-it.result.0.ending _ _ _ _ _
+returns-clause-silent_done g c = λ zero. noted_at _ _ _ _ _ _ c.ended-it.result.0.ending _ _ _
     (sym c.report.ensures.status ∙ zero) c.ended-it.ensures.does.2 c.report.ensures.said
 
 pub returns-clause-silent : goal.returns-clause-silent
-returns-clause-silent g c = λ one. misnamed_at _ _ _ _ _ _ c.ended-it.result.0.ending _ _ _ _ _
+returns-clause-silent g c = λ one. misnamed_at _ _ _ _ _ _ c.ended-it.result.0.ending _ _ _
     (sym c.report.ensures.status ∙ one) c.ended-it.ensures.does.2 c.report.ensures.said

@@ -3,7 +3,7 @@ use Rattle.std.proofs.Common.{length-append}
 use Rattle.std.specs.Prelude.{if◌then◌else◌}
 use Rattle.csv.specs.Records.{fields_of}
 use Rattle.vault_engine.specs.Asking.{reply_to, vault_after}
-use Rattle.vault_engine.specs.Passing.{Passage, passing}
+use Rattle.vault_engine.specs.Passing.{Passage, giving, passage, sending}
 use Rattle.vault_engine.proofs.JoinedUnits.{Joins, answered_then, then_before}
 use Rattle.vault_batch.specs.Asking.{Asked, rows_by}
 use Rattle.vault_batch.specs.Batched.{rows_of, tokens}
@@ -21,9 +21,9 @@ use Rattle.vault_batch.proofs.batch.answer_rows.Goals as goal
 pub returns-in-Err-clause-stopped : goal.returns-in-Err-clause-stopped
 returns-in-Err-clause-stopped g c =
     let known = g.R.Read.remaining c.args.reader.now.inner in
-    let w = passing g.S.Source.given c.args.source.now c.args.source.now g.W.Write.contents c.args.writer.now
-    c.begin.new.writer g.T.Tables.is_honest g.T.Tables.holds g.T.Tables.leaves c.args.vault.now
-    c.args.vault.now in
+    let w = sending g.W.Write.contents c.args.writer.now c.begin.new.writer
+    (giving g.S.Source.given c.args.source.now c.args.source.now
+    (passage g.T.Tables c.args.vault.now c.args.vault.now)) in
     stops_first (Unit {0}) known (λ r. g.R.Read.remaining r.now.inner) c.begin.new.records c.args.asker.now w
     c.in-Err.fault
     (sym (append-nil _), λ V b. (b.1, g.met.T.Tables.settled _ V b.1.0 b.0)) c.in-Err.ensures.sent
@@ -32,9 +32,9 @@ returns-in-Err-clause-stopped g c =
 pub rows-init : goal.rows-init
 rows-init g c =
     let known = g.R.Read.remaining c.args.reader.now.inner in
-    let w = passing g.S.Source.given c.args.source.now c.args.source.now g.W.Write.contents c.args.writer.now
-    c.begin.new.writer g.T.Tables.is_honest g.T.Tables.holds g.T.Tables.leaves c.args.vault.now
-    c.args.vault.now in
+    let w = sending g.W.Write.contents c.args.writer.now c.begin.new.writer
+    (giving g.S.Source.given c.args.source.now c.args.source.now
+    (passage g.T.Tables c.args.vault.now c.args.vault.now)) in
     record {
       asked = [];
       stands = c.in_default.ensures.began known c.records_of-records.ensures;
@@ -70,8 +70,9 @@ pub returns-in-Err-read_record-clause-stopped : goal.returns-in-Err-read_record-
 returns-in-Err-read_record-clause-stopped g c =
     let inv = c.rows.invariant in
     let known = g.R.Read.remaining c.args.reader.now.inner in
-    let w = passing g.S.Source.given c.args.source.now c.rows.source g.W.Write.contents c.args.writer.now
-    c.rows.writer g.T.Tables.is_honest g.T.Tables.holds g.T.Tables.leaves c.args.vault.now c.rows.vault in
+    let w = sending g.W.Write.contents c.args.writer.now c.rows.writer
+    (giving g.S.Source.given c.args.source.now c.rows.source
+    (passage g.T.Tables c.args.vault.now c.rows.vault)) in
     stops_between known c.args.asker.now w inv.asked c.in-Err-read_record.fault
     (begins_given known (λ r. g.R.Read.remaining r.now.inner) c.rows.records _ inv.stands.gave)
     inv.answered c.in-Err-read_record.ensures.only
@@ -90,12 +91,14 @@ next_stands g c =
 module _ (g : Over) (c : After-ask g) where
   -- the passage of the rows before this one, and that of this one
   abbrev early : Passage
-  early = passing g.S.Source.given c.args.source.now c.rows.source g.W.Write.contents c.args.writer.now
-      c.rows.writer g.T.Tables.is_honest g.T.Tables.holds g.T.Tables.leaves c.args.vault.now c.rows.vault
+  early = sending g.W.Write.contents c.args.writer.now c.rows.writer
+      (giving g.S.Source.given c.args.source.now c.rows.source
+      (passage g.T.Tables c.args.vault.now c.rows.vault))
 
   abbrev late : Passage
-  late = passing g.S.Source.given c.rows.source c.ask.new.source g.W.Write.contents c.rows.writer
-      c.ask.new.writer g.T.Tables.is_honest g.T.Tables.holds g.T.Tables.leaves c.rows.vault c.ask.new.vault
+  late = sending g.W.Write.contents c.rows.writer c.ask.new.writer
+      (giving g.S.Source.given c.rows.source c.ask.new.source
+      (passage g.T.Tables c.rows.vault c.ask.new.vault))
 
   joins : Joins early late
   joins = record { given = refl; sent = refl; held = λ V h. h; back = c.ask.ensures.trusted.disk_honest }

@@ -2,7 +2,7 @@ use Rattle.std.proofs.Common.{◌≡◌, ◌+◌, ◌≤◌, List, length, false
 use Rattle.vault_core.specs.Vault.{Vault as Content}
 use Rattle.vault_store.specs.Applied.{is_broken, tables_of}
 use Rattle.vault_wire.specs.Watching.{is_stopped}
-use Rattle.vault_engine.specs.Passing.{IsBefore, passing}
+use Rattle.vault_engine.specs.Passing.{IsBefore, giving, passage, sending}
 use Rattle.vault_engine.specs.Stops.{failures}
 use Rattle.vault_batch.specs.Asking.{Asked}
 use Rattle.vault_batch.specs.Batched.{Answered, rows_of, tokens}
@@ -13,8 +13,8 @@ use Rattle.vault_batch.proofs.batch.answer_rows.Given as goal
 
 abbrev pub invariant-rows : goal.invariant-rows
 invariant-rows g l =
-    let w = passing g.S.Source.given l.initial.source l.source g.W.Write.contents l.fn.writer l.writer
-    g.T.Tables.is_honest g.T.Tables.holds g.T.Tables.leaves l.initial.vault l.vault in
+    let w = sending g.W.Write.contents l.fn.writer l.writer (giving g.S.Source.given l.initial.source l.source
+    (passage g.T.Tables l.initial.vault l.vault)) in
     record {
       asked : List Asked;
       stands : StandsAfter (g.R.Read.remaining l.fn.reader.inner) (λ r. g.R.Read.remaining r.now.inner)

@@ -2,7 +2,7 @@ use Rattle.std.proofs.Common.{◌<◌, List, ℕ, length, take, refl, ap, ◌∙
 use Rattle.std.specs.Io.KnownBytes.{Appends}
 use Rattle.vault_wire.specs.Watching.{inner_of}
 use Rattle.vault_engine.specs.Asking.{kind}
-use Rattle.vault_engine.specs.Passing.{passing}
+use Rattle.vault_engine.specs.Passing.{giving, passage, sending}
 use Rattle.vault_engine.specs.Stops.{StopsAt}
 use Rattle.vault_engine.proofs.Answering.{appends_nothing, asked, none_answered, none_decided, one_answered}
 use Rattle.vault_engine.proofs.Answering.{one_cut, one_silent, one_undecided, text_is, when_err, when_ok}
@@ -10,18 +10,18 @@ use Rattle.vault_engine.proofs.ask.ask.Goals as goal
 
 pub returns-in_default-clause-stopped : goal.returns-in_default-clause-stopped
 returns-in_default-clause-stopped g c =
-    let w = passing g.S.Source.given c.args.source.now c.next.new.self g.W.Write.contents c.args.writer.now
-    c.args.writer.now g.T.Tables.is_honest g.T.Tables.holds g.T.Tables.leaves c.args.vault.now
-    c.args.vault.now in
+    let w = sending g.W.Write.contents c.args.writer.now c.args.writer.now
+    (giving g.S.Source.given c.args.source.now c.next.new.self
+    (passage g.T.Tables c.args.vault.now c.args.vault.now)) in
     none_answered _ w c.in_default.ensures.keeps (appends_nothing _)
     (λ V b. (b.1, g.met.T.Tables.settled _ V b.1.0 b.0))
 
 pub returns-in-Err-clause-stopped : goal.returns-in-Err-clause-stopped
 returns-in-Err-clause-stopped g c =
     let d = c.in-Err.ensures in
-    let w = passing g.S.Source.given c.args.source.now c.next.new.self g.W.Write.contents c.args.writer.now
-    c.args.writer.now g.T.Tables.is_honest g.T.Tables.holds g.T.Tables.leaves c.args.vault.now
-    c.decide.new.vault in
+    let w = sending g.W.Write.contents c.args.writer.now c.args.writer.now
+    (giving g.S.Source.given c.args.source.now c.next.new.self
+    (passage g.T.Tables c.args.vault.now c.decide.new.vault)) in
     let k = kind (g.U.Unit.wants c.args.unit.now) g.U.Unit.text in
     elim d.only [
       | inl same ↦ subst (StopsAt k w (g.U.Unit.shown c.args.unit.now)) (sym same)

@@ -18,17 +18,11 @@ returns-in-Ok-clause-sound g c image holds =
           (c.in-Ok.ensures.kept image holds (was clean) V sound keeps);
     }
 
-pub returns-in-Err-default-Some-clause-damaged : goal.returns-in-Err-default-Some-clause-damaged
-returns-in-Err-default-Some-clause-damaged g c image holds clean =
+pub returns-in-Err-default-Some-clause-rightly : goal.returns-in-Err-default-Some-clause-rightly
+returns-in-Err-default-Some-clause-rightly g c image holds clean =
     let was : HasCleanDisk (file_state c.in-Err-default-Some.conn) =
     omega (arith, c.close-in-Err-default-Some.ensures.clean, clean) in
-    ((rw c.in-Err-default-Some.field-0-1-is at c.in-Err-default-Some.ensures.tells) image holds was).damaged
-
-pub returns-in-Err-default-Some-clause-spared : goal.returns-in-Err-default-Some-clause-spared
-returns-in-Err-default-Some-clause-spared g c image holds clean =
-    let was : HasCleanDisk (file_state c.in-Err-default-Some.conn) =
-    omega (arith, c.close-in-Err-default-Some.ensures.clean, clean) in
-    (rw c.in-Err-default-Some.field-0-1-is at c.in-Err-default-Some.ensures.spared) image holds was
+    (rw c.in-Err-default-Some.field-0-1-is at c.in-Err-default-Some.ensures.rightly) image holds was
 
 pub returns-in-Ok-true-clause-empty : goal.returns-in-Ok-true-clause-empty
 returns-in-Ok-true-clause-empty g c = λ _. (no_sizes, c.in-Ok-true.ensures c.in-Ok-true.field-0-test)
@@ -42,7 +36,7 @@ pub returns-in-Err-default-Some-clause-same : goal.returns-in-Err-default-Some-c
 returns-in-Err-default-Some-clause-same g c image holds =
     stays_whole image c.in-Err-default-Some.conn
     c.close-in-Err-default-Some.result
-    ((rw c.in-Err-default-Some.field-0-1-is at c.in-Err-default-Some.ensures.same_refused) image holds)
+    ((rw c.in-Err-default-Some.field-0-1-is at c.in-Err-default-Some.ensures.same) image holds)
     (λ clean. omega (arith, c.close-in-Err-default-Some.ensures.clean, clean))
     c.close-in-Err-default-Some.ensures.after
 
@@ -51,16 +45,10 @@ returns-in-Ok-clause-left g c image holds =
     stays image c.in-Ok.conn c.close.result (c.in-Ok.ensures.left image holds)
     (λ clean. omega (arith, c.close.ensures.clean, clean)) c.close.ensures.after
 
-pub returns-in-Err-default-Some-clause-tells : goal.returns-in-Err-default-Some-clause-tells
-returns-in-Err-default-Some-clause-tells g c image holds clean =
-    let was : HasCleanDisk (file_state c.in-Err-default-Some.conn) =
-    omega (arith, c.close-in-Err-default-Some.ensures.clean, clean) in
-    (rw c.in-Err-default-Some.field-0-1-is at c.in-Err-default-Some.ensures.tells) image holds was
-
 pub returns-in-Err-default-Some-clause-left : goal.returns-in-Err-default-Some-clause-left
 returns-in-Err-default-Some-clause-left g c image holds =
     stays image c.in-Err-default-Some.conn c.close-in-Err-default-Some.result
-    ((rw c.in-Err-default-Some.field-0-1-is at c.in-Err-default-Some.ensures.left_refused) image holds)
+    ((rw c.in-Err-default-Some.field-0-1-is at c.in-Err-default-Some.ensures.left) image holds)
     (λ clean. omega (arith, c.close-in-Err-default-Some.ensures.clean, clean))
     c.close-in-Err-default-Some.ensures.after
 

@@ -12,7 +12,7 @@ returns-in-Ok-clause-sizes g c image holds clean = (
       (omega (arith, c.check.ensures.nothing_new.clean, clean)),
   record {
     whose = whose_of c.told-told.result.1 (file_state c.in-Some.conn).now.schema c.told-told.ensures.holder
-        (λ other. c.in-Ok.ensures.foreign other);
+        (λ other. c.in-Ok.ensures.foreign.refused other);
     sizes_are = c.in-Ok.ensures.sound clean;
   },
 )
@@ -24,18 +24,17 @@ returns-in-Ok-clause-kept g c image holds clean V sound keeps =
     still_held (file_state c.in-Some.conn) (file_state c.check.new.conn)
     (c.in-Ok.ensures.kept clean held.schema) c.check.ensures.nothing_new.limit V held
 
-pub returns-in-Err-clause-tells : goal.returns-in-Err-clause-tells
-returns-in-Err-clause-tells g c image holds clean =
-    tells_found (c.in-Some.ensures.opened image holds) (c.in-Some.ensures.again image holds)
-    c.check.new.conn c.in-Err.fault c.in-Err.ensures.spared (λ some. c.check.ensures.nothing_new.clean) clean
-    (c.in-Err.ensures.damaged clean) (c.in-Err.ensures.wrong clean)
-
-pub returns-in-Err-clause-spared : goal.returns-in-Err-clause-spared
-returns-in-Err-clause-spared g c image holds clean =
-    spares (c.in-Some.ensures.opened image holds) (c.in-Some.ensures.again image holds)
-    c.check.new.conn c.in-Err.fault
-    c.in-Err.ensures.spared (λ some. c.check.ensures.nothing_new.clean) clean
-    (c.in-Some.ensures.either image holds) (c.in-Some.ensures.first image holds)
+pub returns-in-Err-clause-rightly : goal.returns-in-Err-clause-rightly
+returns-in-Err-clause-rightly g c image holds clean =
+    let rows = c.in-Err.ensures.rows in
+    record {
+      tells = tells_found (c.in-Some.ensures.opened image holds) (c.in-Some.ensures.again image holds)
+          c.check.new.conn c.in-Err.fault rows.spared (λ some. c.check.ensures.nothing_new.clean) clean
+          (rows.damaged clean) (rows.wrong clean);
+      spared = spares (c.in-Some.ensures.opened image holds) (c.in-Some.ensures.again image holds)
+          c.check.new.conn c.in-Err.fault rows.spared (λ some. c.check.ensures.nothing_new.clean) clean
+          (c.in-Some.ensures.either image holds) (c.in-Some.ensures.first image holds);
+    }
 
 pub returns-in-Ok-clause-same : goal.returns-in-Ok-clause-same
 returns-in-Ok-clause-same g c image holds =
@@ -44,8 +43,8 @@ returns-in-Ok-clause-same g c image holds =
     (checked_less c.in-Some.conn c.check.new.conn c.told-told.result.0 c.told-told.ensures.version
     c.check.ensures.nothing_new c.check.ensures.untouched)
 
-pub returns-in-Err-clause-same_refused : goal.returns-in-Err-clause-same_refused
-returns-in-Err-clause-same_refused g c image holds =
+pub returns-in-Err-clause-same : goal.returns-in-Err-clause-same
+returns-in-Err-clause-same g c image holds =
     leaves_whole image c.in-Some.conn c.check.new.conn (c.in-Some.ensures.opened image holds)
     c.settled.ensures c.check.ensures.nothing_new.clean
     (checked_less c.in-Some.conn c.check.new.conn c.told-told.result.0 c.told-told.ensures.version
@@ -58,8 +57,8 @@ returns-in-Ok-clause-left g c image holds =
     (c.in-Some.ensures.again image holds) (c.in-Some.ensures.either image holds)
     (c.in-Some.ensures.first image holds)
 
-pub returns-in-Err-clause-left_refused : goal.returns-in-Err-clause-left_refused
-returns-in-Err-clause-left_refused g c image holds =
+pub returns-in-Err-clause-left : goal.returns-in-Err-clause-left
+returns-in-Err-clause-left g c image holds =
     checked_leaves image c.in-Some.conn c.check.new.conn (c.in-Some.ensures.opened image holds)
     c.in-Some.ensures.unlimited c.settled.ensures c.check.ensures.nothing_new c.check.ensures.untouched
     (c.in-Some.ensures.again image holds) (c.in-Some.ensures.either image holds)

@@ -1,6 +1,8 @@
 use Rattle.std.proofs.Common.{arith}
 use Rattle.sqlite.specs.Files.{file_state}
 use Rattle.sqlite.specs.State.{HasCleanDisk}
+use Rattle.sqlite.specs.View.{IsClean}
+use Rattle.sqlite_store.specs.FileStore.{view}
 use Rattle.vault_file.proofs.Leaving.{stays}
 use Rattle.vault_file.proofs.Moving.{moves_as, stays_old}
 use Rattle.vault_file.proofs.Whole.{stays_whole}
@@ -14,40 +16,18 @@ returns-in-Ok-clause-moved g c image holds =
     moves_as image c.in-Ok.conn c.close.result (c.in-Ok.ensures.moved image holds)
     (λ clean. omega (arith, c.close.ensures.clean, clean)) c.close.ensures.after
 
-pub returns-in-Err-default-Some-clause-stays : goal.returns-in-Err-default-Some-clause-stays
-returns-in-Err-default-Some-clause-stays g c image holds =
-    stays image c.in-Err-default-Some.conn c.close-in-Err-default-Some.result
-    ((rw c.in-Err-default-Some.field-0-1-is at c.in-Err-default-Some.ensures.left) image holds)
-    (λ clean. omega (arith, c.close-in-Err-default-Some.ensures.clean, clean))
-    c.close-in-Err-default-Some.ensures.after
-
-pub returns-in-Err-default-Some-clause-tells : goal.returns-in-Err-default-Some-clause-tells
-returns-in-Err-default-Some-clause-tells g c image holds clean =
-    let was : HasCleanDisk (file_state c.in-Err-default-Some.conn) =
-    omega (arith, c.close-in-Err-default-Some.ensures.clean, clean) in
-    (rw c.in-Err-default-Some.field-0-1-is at c.in-Err-default-Some.ensures.tells) image holds was
-
 pub returns-in-Err-default-Some-clause-left : goal.returns-in-Err-default-Some-clause-left
 returns-in-Err-default-Some-clause-left g c image holds =
-    stays_old image c.in-Err-default-Some.conn c.close-in-Err-default-Some.result c.in-Err-default-Some.fault
-    ((rw c.in-Err-default-Some.field-0-1-is at c.in-Err-default-Some.ensures.left_old) image holds)
-    (λ clean. omega (arith, c.close-in-Err-default-Some.ensures.clean, clean))
-    c.close-in-Err-default-Some.ensures.after
-    ((rw c.in-Err-default-Some.field-0-1-is at c.in-Err-default-Some.ensures.never_in) image holds)
-    ((rw c.in-Err-default-Some.field-0-1-is at c.in-Err-default-Some.ensures.never_some) image holds)
-    ((rw c.in-Err-default-Some.field-0-1-is at c.in-Err-default-Some.ensures.spared) image holds)
-
-pub returns-in-Err-default-Some-clause-same : goal.returns-in-Err-default-Some-clause-same
-returns-in-Err-default-Some-clause-same g c image holds other =
-    stays_whole image c.in-Err-default-Some.conn c.close-in-Err-default-Some.result
-    ((rw c.in-Err-default-Some.field-0-1-is at c.in-Err-default-Some.ensures.same) image holds other)
-    (λ clean. omega (arith, c.close-in-Err-default-Some.ensures.clean, clean))
-    c.close-in-Err-default-Some.ensures.after
-
-pub returns-in-Err-default-Some-clause-same_unmoved : goal.returns-in-Err-default-Some-clause-same_unmoved
-returns-in-Err-default-Some-clause-same_unmoved g c image holds some none =
-    stays_whole image c.in-Err-default-Some.conn c.close-in-Err-default-Some.result
-    ((rw c.in-Err-default-Some.field-0-1-is at c.in-Err-default-Some.ensures.same_unmoved) image holds some
-    none)
-    (λ clean. omega (arith, c.close-in-Err-default-Some.ensures.clean, clean))
-    c.close-in-Err-default-Some.ensures.after
+    let conn = c.in-Err-default-Some.conn in
+    let after = c.close-in-Err-default-Some.ensures.after in
+    let was : IsClean (view c.close-in-Err-default-Some.result) → HasCleanDisk (file_state conn) =
+    λ clean. omega (arith, c.close-in-Err-default-Some.ensures.clean, clean) in
+    let left = (rw c.in-Err-default-Some.field-0-1-is at c.in-Err-default-Some.ensures.left) image holds in
+    let rightly = (rw c.in-Err-default-Some.field-0-1-is at c.in-Err-default-Some.ensures.rightly) in
+    record {
+      refuses = λ clean. rightly image holds (was clean);
+      stays = stays image conn _ left.left was after;
+      old = stays_old image conn _ c.in-Err-default-Some.fault left.old was after;
+      same = λ other. stays_whole image conn _ (left.same other) was after;
+      same_unmoved = λ some none. stays_whole image conn _ (left.same_unmoved some none) was after;
+    }

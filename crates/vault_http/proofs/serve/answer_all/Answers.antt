@@ -4,7 +4,7 @@ use Rattle.std.specs.Prelude.{Bool}
 use Rattle.std.proofs.lemmas.List.{length-take-le}
 use Rattle.vault_core.specs.declared.reply.Reply.{Reply}
 use Rattle.vault_wire.specs.Parts.{Parts, closes}
-use Rattle.vault_engine.specs.Passing.{passing}
+use Rattle.vault_engine.specs.Passing.{giving, passage, sending}
 use Rattle.vault_engine.proofs.Answering.{appends_nothing}
 use Rattle.vault_engine.proofs.Within.{all_nothing, all_one, all_then, stops_at_first, stops_then}
 use Rattle.vault_http.specs.Exchanges.{message_kind, up_to_close}
@@ -16,9 +16,9 @@ use Rattle.vault_http.proofs.serve.answer_all.Goals as goal
 
 pub loop-message-init : goal.loop-message-init
 loop-message-init g c =
-    let w = passing g.S.Source.given c.args.source.now c.args.source.now g.W.Write.contents c.args.writer.now
-    c.args.writer.now g.T.Tables.is_honest g.T.Tables.holds g.T.Tables.leaves c.args.vault.now
-    c.args.vault.now in
+    let w = sending g.W.Write.contents c.args.writer.now c.args.writer.now
+    (giving g.S.Source.given c.args.source.now c.args.source.now
+    (passage g.T.Tables c.args.vault.now c.args.vault.now)) in
     record {
       open_till = refl;
       answered = all_nothing message_kind w refl (appends_nothing _)

@@ -1,7 +1,7 @@
 use Rattle.std.proofs.Common.{[], refl}
 use Rattle.std.proofs.lemmas.List.Elements.{All-nil}
 use Rattle.vault_wire.specs.Messages.{IsMessage}
-use Rattle.vault_engine.specs.Passing.{passing}
+use Rattle.vault_engine.specs.Passing.{giving, passage, sending}
 use Rattle.vault_engine.proofs.Answering.{appends_nothing}
 use Rattle.vault_engine.proofs.Within.{all_nothing, stops_after}
 use Rattle.vault_http.specs.Exchanges.{message_kind}
@@ -11,9 +11,9 @@ use Rattle.vault_http.proofs.serve.serve.Goals as goal
 
 pub returns-in_default-clause-serves : goal.returns-in_default-clause-serves
 returns-in_default-clause-serves g c =
-    let w = passing g.S.Source.given c.args.source.now c.args.source.now g.W.Write.contents c.args.writer.now
-    c.args.writer.now g.T.Tables.is_honest g.T.Tables.holds g.T.Tables.leaves c.args.vault.now
-    c.args.vault.now in
+    let w = sending g.W.Write.contents c.args.writer.now c.args.writer.now
+    (giving g.S.Source.given c.args.source.now c.args.source.now
+    (passage g.T.Tables c.args.vault.now c.args.vault.now)) in
     serves_part _ _ w _ (record {
       bytes = [];
       messages = [];

@@ -6,7 +6,7 @@ use Rattle.vault_store.specs.Applied.{is_broken}
 use Rattle.vault_wire.specs.Parts.{parts_of}
 use Rattle.vault_wire.specs.Reading.{Kept}
 use Rattle.vault_wire.specs.Watching.{is_stopped}
-use Rattle.vault_engine.specs.Passing.{passing}
+use Rattle.vault_engine.specs.Passing.{giving, passage, sending}
 use Rattle.vault_engine.proofs.Answering.{appends_nothing}
 use Rattle.vault_engine.proofs.Within.{all_nothing, all_then, stops_after, stops_then}
 use Rattle.vault_http.specs.Faults.{Failures, failures}
@@ -23,9 +23,9 @@ use Rattle.vault_http.proofs.serve.serve_by.Goals as goal
 
 pub pieces-init : goal.pieces-init
 pieces-init g c =
-    let w = passing g.S.Source.given c.args.source.now c.args.source.now g.W.Write.contents c.args.writer.now
-    c.args.writer.now g.T.Tables.is_honest g.T.Tables.holds g.T.Tables.leaves c.args.vault.now
-    c.args.vault.now in
+    let w = sending g.W.Write.contents c.args.writer.now c.args.writer.now
+    (giving g.S.Source.given c.args.source.now c.args.source.now
+    (passage g.T.Tables c.args.vault.now c.args.vault.now)) in
     record {
       room = refl;
       calm = ap (λ (k : Kept). k.fault) c.new-intake.ensures.fresh;

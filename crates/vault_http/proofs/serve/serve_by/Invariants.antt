@@ -6,7 +6,7 @@ use Rattle.vault_wire.specs.Reading.{IsReading}
 use Rattle.vault_wire.specs.Watching.{is_stopped}
 use Rattle.vault_http.specs.Exchanges.{has_close, message_kind, shown}
 use Rattle.vault_http.specs.Faults.{failures}
-use Rattle.vault_engine.specs.Passing.{passing}
+use Rattle.vault_engine.specs.Passing.{giving, passage, sending}
 use Rattle.vault_engine.specs.Within.{AllAnswered}
 use Rattle.vault_http.proofs.serve.serve_by.Given as goal
 
@@ -19,9 +19,9 @@ invariant-pieces g l = record {
   read : Consumes (g.R.Read.remaining l.initial.reader.inner) (g.R.Read.remaining l.reader.inner) bytes;
   reading : IsReading l.intake bytes messages;
   open_till : has_close (shown messages) ≡ false;
-  answered : AllAnswered message_kind [] (passing g.S.Source.given l.initial.source l.source
-      g.W.Write.contents l.initial.writer l.writer
-      g.T.Tables.is_honest g.T.Tables.holds g.T.Tables.leaves l.initial.vault l.vault) (shown messages);
+  answered : AllAnswered message_kind [] (sending g.W.Write.contents l.initial.writer l.writer
+      (giving g.S.Source.given l.initial.source l.source (passage g.T.Tables l.initial.vault l.vault)))
+      (shown messages);
   counted : g.S.Source.count_left l.initial.source ≡ g.S.Source.count_left l.source + length messages;
   later : g.S.Source.precedes l.initial.source l.source;
   told : failures (g.S.Source.has_refused l.source) (is_stopped l.reader) (is_stopped l.writer)

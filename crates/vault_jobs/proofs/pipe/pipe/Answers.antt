@@ -1,5 +1,5 @@
 use Rattle.std.proofs.Common.{inr, refl}
-use Rattle.vault_engine.specs.Passing.{Passage, passing}
+use Rattle.vault_engine.specs.Passing.{Passage, giving, passage, sending}
 use Rattle.vault_jobs.proofs.Flushing.{flushed}
 use Rattle.vault_jobs.specs.Piped.{IsPiped}
 use Rattle.vault_jobs.proofs.pipe.pipe.Given.{Over}
@@ -9,9 +9,9 @@ use Rattle.vault_jobs.proofs.pipe.pipe.Goals as goal
 module _ (g : Over) (c : After-flush g) where
   -- the passage up to the flush
   abbrev served : Passage
-  served = passing g.S.Source.given c.args.source.now c.serve.new.source g.W.Write.contents c.args.output.now
-      c.serve.new.writer g.T.Tables.is_honest g.T.Tables.holds g.T.Tables.leaves c.args.vault.now
-      c.serve.new.vault
+  served = sending g.W.Write.contents c.args.output.now c.serve.new.writer
+      (giving g.S.Source.given c.args.source.now c.serve.new.source
+      (passage g.T.Tables c.args.vault.now c.serve.new.vault))
 
   -- the messages are served, whether what went out was handed on or not
   piped : IsPiped (g.R.Read.remaining c.args.input.now.inner) (g.R.Read.remaining c.serve.new.reader.inner)

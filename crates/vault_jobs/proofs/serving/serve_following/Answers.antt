@@ -1,17 +1,18 @@
 use Rattle.std.proofs.Common.{◌≡◌, ◌⊎◌, false, true}
 use Rattle.std.specs.Option.{option_map_or}
 use Rattle.std.specs.Prelude.{IsSomeAnd}
+use Rattle.vault_engine.specs.Passing.{passage}
 use Rattle.vault_merchants.specs.Listed.{AreListed}
-use Rattle.vault_listen.specs.Peers.{vault_passing}
 use Rattle.vault_live.specs.Following.{AreRowsIn, Asks}
 use Rattle.vault_live.specs.Kinds.{merchants_changes, rights_changes}
 use Rattle.vault_live.specs.Sweeping.{AsksPurges}
 use Rattle.vault_live.specs.Turns.{Asking}
 use Rattle.vault_jobs.proofs.Followed.{acts_not, asks_as, asks_listed, neither, not_first, not_second}
-use Rattle.vault_jobs.specs.Doing.{ServeEnds}
+use Rattle.vault_jobs.specs.Doing.{ServeEnds, serving_of}
 use Rattle.vault_jobs.specs.Lists.{follows, path_of}
 use Rattle.vault_jobs.proofs.serving.serve_following.Given.{Over}
 use Rattle.vault_jobs.proofs.serving.serve_following.Goals.{After-serve_at}
+use Rattle.vault_jobs.specs.Streams.{output_with}
 use Rattle.vault_jobs.proofs.serving.serve_following.Goals as goal
 
 pub returns-clause-does : goal.returns-clause-does
@@ -20,11 +21,10 @@ returns-clause-does g c =
     let tells = g.K.Timekeeper.tells c.args.time.now in
     let says = g.D.Desk.says in
     let desk = c.args.desk.now in
-    let ends : Asking → Type 0 = λ asks. ServeEnds tells asks c.args.port c.args.connections
-    (vault_passing g.T.Tables.is_honest g.T.Tables.holds g.T.Tables.leaves c.args.vault.now
-    c.serve_at.new.vault) c.serve_at.result
-    (c.serve_at.new.output ≡ c.args.output.now) (g.W.Write.contents c.args.output.now.inner)
-    (g.W.Write.contents c.serve_at.new.output.inner) c.serve_at.new.output.stopped does.0 in
+    let ends : Asking → Type 0 = λ asks. ServeEnds (serving_of tells asks c.args.port c.args.connections)
+    (passage g.T.Tables c.args.vault.now c.serve_at.new.vault) c.serve_at.result
+    (output_with (c.serve_at.new.output ≡ c.args.output.now) (g.W.Write.contents c.args.output.now.inner)
+    (g.W.Write.contents c.serve_at.new.output.inner) c.serve_at.new.output.stopped) does.0 in
     let lists = c.args.lists.now in
     let sets : Asking = λ V cs. IsSomeAnd lists.merchants
     (λ it. Asks AreListed merchants_changes (says desk (path_of it)) tells V cs) in

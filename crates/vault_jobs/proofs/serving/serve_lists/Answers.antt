@@ -1,6 +1,5 @@
 use Rattle.std.proofs.Common.{[], inl, refl}
 use Rattle.vault_listen.proofs.ServedConnections.{none_then}
-use Rattle.vault_store.specs.Applied.{is_broken}
 use Rattle.vault_jobs.proofs.Listed.{following, serves_then}
 use Rattle.vault_jobs.specs.Lists.{follows}
 use Rattle.vault_jobs.specs.Outside.{outside}
@@ -13,7 +12,6 @@ returns-in-Ok-Ok-clause-does g c =
       does.1,
       serves_then g.T.Tables.is_honest g.T.Tables.holds g.T.Tables.leaves c.args.vault.now c.begin.new.vault
           c.serve_following.new.vault c.args.lists.now c.serve_following.ensures.disk_honest
-          (is_broken c.begin.new.vault) (is_broken c.serve_following.new.vault)
           (rw c.in-Ok-Ok.field-0-is at c.in-Ok-Ok.ensures.carried)
           (outside (g.K.Timekeeper.tells c.args.time.now) (g.D.Desk.says c.args.desk.now)) c.args.port
           c.args.connections _ _ _ _ _ does.0 does.2 c.serve_following.ensures.writer_ok,

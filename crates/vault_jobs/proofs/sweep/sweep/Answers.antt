@@ -10,7 +10,7 @@ use Rattle.vault_jobs.proofs.sweep.sweep.Goals as goal
 
 pub loop-init : goal.loop-init
 loop-init g c = (
-  c.requires,
+  c.requires.unbroken,
   λ h. h,
   none_yet c.args.asker.now c.args.now g.T.Tables.is_honest g.T.Tables.holds g.T.Tables.leaves
       c.args.vault.now,
@@ -24,8 +24,8 @@ pub returns-in-Err-clause-swept : goal.returns-in-Err-clause-swept
 returns-in-Err-clause-swept g c =
     unread g.T.Tables.is_honest g.T.Tables.holds g.T.Tables.leaves c.args.asker.now c.args.now
     c.args.vault.now c.loop.vault c.dead.new.self c.loop.counter c.loop.count c.loop.invariant.2
-    c.in-Err.ensures.disk_honest c.in-Err.fault c.loop.invariant.0 c.in-Err.ensures.broken
-    (λ is. c.in-Err.ensures.reopen.0 (ap Err is)) (λ is. c.in-Err.ensures.memory (ap Err is))
+    c.in-Err.ensures.disk_honest c.in-Err.fault c.loop.invariant.0 c.in-Err.ensures.fails.broken
+    (λ is. c.in-Err.ensures.fails.reopen.0 (ap Err is)) (λ is. c.in-Err.ensures.memory (ap Err is))
     c.in-Err.ensures.crash
 
 pub returns-then-is_empty-clause-swept : goal.returns-then-is_empty-clause-swept
@@ -34,14 +34,14 @@ returns-then-is_empty-clause-swept g c =
     grind (arith, nat_tests, common_steps, c.is_empty.ensures, c.if-is_empty.true) in
     all_swept g.T.Tables.is_honest g.T.Tables.holds g.T.Tables.leaves c.args.asker.now c.args.now
     c.args.vault.now c.loop.vault c.dead.new.self c.loop.counter c.loop.count c.loop.invariant.2
-    c.in-Ok.ensures.disk_honest (is_broken c.dead.new.self) c.in-Ok.tokens.items 1000 (omega arith) none
+    c.in-Ok.ensures.disk_honest c.in-Ok.tokens.items 1000 (omega arith) none
     c.in-Ok.ensures.told c.in-Ok.ensures.crash
 
 pub returns-in-Ok-Err-clause-swept : goal.returns-in-Ok-Err-clause-swept
 returns-in-Ok-Err-clause-swept g c =
     page_refused g.T.Tables.is_honest g.T.Tables.holds g.T.Tables.leaves c.args.asker.now c.args.now
     c.args.vault.now c.loop.vault c.dead.new.self c.carry_all.new.vault c.loop.counter c.loop.count
-    c.as_slice.result.now 1000 (is_broken c.carry_all.new.vault) c.loop.invariant.2
+    c.as_slice.result.now 1000 c.loop.invariant.2
     c.in-Ok.ensures.disk_honest
     c.in-Ok-Err.ensures.disk_honest
     (λ h W held. let t = c.in-Ok.ensures.told h W held in (c.as_slice.ensures.value ∙ t.0, t.1))
@@ -51,7 +51,7 @@ pub returns-in-Err-carry_all-clause-swept : goal.returns-in-Err-carry_all-clause
 returns-in-Err-carry_all-clause-swept g c =
     page_stopped g.T.Tables.is_honest g.T.Tables.holds g.T.Tables.leaves c.args.asker.now c.args.now
     c.args.vault.now c.loop.vault c.dead.new.self c.carry_all.new.vault c.loop.counter c.loop.count
-    c.as_slice.result.now 1000 (is_broken c.carry_all.new.vault) c.loop.invariant.2
+    c.as_slice.result.now 1000 c.loop.invariant.2
     c.in-Ok.ensures.disk_honest
     c.in-Err-carry_all.ensures.disk_honest
     (λ h W held. let t = c.in-Ok.ensures.told h W held in (c.as_slice.ensures.value ∙ t.0, t.1))
@@ -68,7 +68,7 @@ loop-preserved g c =
       λ h. c.loop.invariant.1 (c.in-Ok.ensures.disk_honest (c.in-Ok-Ok.ensures.disk_honest h)),
       page_swept g.T.Tables.is_honest g.T.Tables.holds g.T.Tables.leaves c.args.asker.now c.args.now
           c.args.vault.now c.loop.vault c.dead.new.self c.carry_all.new.vault c.loop.counter c.loop.count
-          page 1000 (is_broken c.carry_all.new.vault) c.loop.invariant.2 c.in-Ok.ensures.disk_honest
+          page 1000 c.loop.invariant.2 c.in-Ok.ensures.disk_honest
           c.in-Ok-Ok.ensures.disk_honest
           (λ h W held. let t = c.in-Ok.ensures.told h W held in (c.as_slice.ensures.value ∙ t.0, t.1))
           c.saturating_add-count.result
@@ -79,5 +79,5 @@ loop-preserved g c =
 pub returns-clause-swept : goal.returns-clause-swept
 returns-clause-swept g c =
     never_ends c.args.asker.now c.args.now g.T.Tables.is_honest g.T.Tables.holds g.T.Tables.leaves
-    c.args.vault.now c.loop.vault c.loop.counter c.loop.count (is_broken c.loop.vault)
+    c.args.vault.now c.loop.vault c.loop.counter c.loop.count
     (omega (arith, c.loop-test.false, c.loop.auto.counter-end)) c.loop.invariant.2

@@ -2,7 +2,7 @@ use Rattle.std.proofs.Common.{◌⊎◌}
 use Rattle.vault_core.specs.Vault.{Vault as Content}
 use Rattle.vault_listen.specs.Live.{AreGiven, pairs_of}
 use Rattle.vault_store.specs.Held.{IsHeld}
-use Rattle.vault_engine.specs.Passing.{Passage, passing}
+use Rattle.vault_engine.specs.Passing.{Passage, giving, sending, vault_passing}
 use Rattle.vault_jobs.specs.Streams.{Known}
 use Rattle.vault_jobs.specs.Trial.{IsCut, trial_vault}
 use Rattle.vault_jobs.specs.declared.trial.Trial.{Trial}
@@ -18,10 +18,10 @@ abbrev made : Trial → Content
 made trial = trial_vault trial.caller trial.merchant trial.life trial.made
 
 -- where no message is read
-uncut : (g : Over) (c : Start g) → IsCut (g.K.Timekeeper.tells c.args.time.now)
+uncut : (g : Over) (c : Start g) → IsCut (AreGiven (g.K.Timekeeper.tells c.args.time.now)
+    c.args.trial.now.moment c.args.trial.now.digits) (made c.args.trial.now)
     (g.R.Read.remaining c.args.input.now.inner) (g.R.Read.remaining c.args.input.now.inner)
     (g.W.Write.contents c.args.output.now.inner) (g.W.Write.contents c.args.output.now.inner)
-    (made c.args.trial.now) c.args.trial.now.moment c.args.trial.now.digits
 uncut g c =
     nothing_cut (g.K.Timekeeper.tells c.args.time.now) (g.R.Read.remaining c.args.input.now.inner)
     (g.W.Write.contents c.args.output.now.inner) (made c.args.trial.now) c.args.trial.now.moment
@@ -42,9 +42,9 @@ module _ (g : Over) (c : After-pipe g) where
   rest = g.R.Read.remaining c.pipe.new.input.inner
 
   abbrev w : Passage
-  w = passing pairs_of c.in-Some.pairs c.pipe.new.source g.W.Write.contents c.args.output.now
-      c.pipe.new.output (λ t. Unit {0}) IsHeld (λ t V W. IsHeld t V ⊎ IsHeld t W) c.in_ok-vault.vault
-      c.pipe.new.vault
+  w = sending g.W.Write.contents c.args.output.now c.pipe.new.output
+      (giving pairs_of c.in-Some.pairs c.pipe.new.source (vault_passing (λ t. Unit {0}) IsHeld
+      (λ t V W. IsHeld t V ⊎ IsHeld t W) c.in_ok-vault.vault c.pipe.new.vault))
 
   -- the pairs are those of the trial
   fits : AreGiven (g.K.Timekeeper.tells c.args.time.now) c.args.trial.now.moment c.args.trial.now.digits

@@ -1,7 +1,7 @@
 use Rattle.std.proofs.Common.{List, None, Result, Ok, Err, length, ap, arith, subst}
 use Rattle.std.specs.Prelude.{IfErr, IfOk, MatchResult}
 use Rattle.vault_engine.specs.Asking.{Pair}
-use Rattle.vault_engine.specs.Passing.{passing}
+use Rattle.vault_engine.specs.Passing.{giving, passage, sending}
 use Rattle.vault_http.specs.Served.{IsServed, IsStopped}
 use Rattle.vault_listen.specs.Live.{pairs_of}
 use Rattle.vault_listen.proofs.Turns.{begun_with, given_since}
@@ -18,9 +18,9 @@ returns-clause-answered g c =
     let rest = g.R.Read.remaining c.serve_by.new.reader.inner in
     let pairs = pairs_of c.serve_by.new.source in
     let gave = c.ending-source.ensures.fresh.gave in
-    let w = λ (given : List Pair). passing (λ (ps : List Pair). ps) given pairs g.W.Write.contents
-    c.args.writer.now c.serve_by.new.writer g.T.Tables.is_honest g.T.Tables.holds g.T.Tables.leaves
-    c.args.vault.now c.serve_by.new.vault in (
+    let w = λ (given : List Pair). sending g.W.Write.contents c.args.writer.now c.serve_by.new.writer
+    (giving (λ (ps : List Pair). ps) given pairs (passage g.T.Tables c.args.vault.now
+    c.serve_by.new.vault)) in (
       pairs,
       omega (
         arith,

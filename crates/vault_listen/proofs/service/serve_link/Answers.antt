@@ -18,11 +18,11 @@ module _ (g : Over) (c : After-close g) where
     ended = c.serve_connection-ended.result;
   }
 
-  served : IsLink (g.K.Timekeeper.tells c.args.time.now) g.T.Tables.is_honest g.T.Tables.holds
-      g.T.Tables.leaves x c.args.vault.now c.serve_connection-ended.new.vault
+  served : IsLink (g.K.Timekeeper.tells c.args.time.now) g.T.Tables x c.args.vault.now
+      c.serve_connection-ended.new.vault
   served =
       let e = c.serve_connection-ended in
-      link_of (g.K.Timekeeper.tells c.args.time.now) g.T.Tables.is_honest g.T.Tables.holds g.T.Tables.leaves
+      link_of (g.K.Timekeeper.tells c.args.time.now) g.T.Tables
       x c.args.vault.now e.new.vault c.new-reader.result.stopped c.new-writer.result.stopped
       e.ensures.own_failure.0 e.ensures.answered.0 e.ensures.answered.1 e.ensures.answered.2
       e.ensures.answered.3 c.new-reader.ensures.fresh c.new-writer.ensures.fresh e.ensures.own_failure.1

@@ -2,8 +2,9 @@ use Rattle.std.proofs.Common.{◌≡◌, ◌+◌, ◌<◌, ◌++◌, ◌∷◌, 
 use Rattle.std.proofs.Common.{length-append}
 use Rattle.std.proofs.Common.{refl, subst, sym}
 use Rattle.std.proofs.lemmas.List.Elements.{All-append, All-cons, All-nil}
+use Rattle.vault_engine.specs.Passing.{passage}
 use Rattle.vault_store.specs.Applied.{is_broken, tables_of}
-use Rattle.vault_listen.specs.Peers.{AreLinks, Link, events_of, vault_passing}
+use Rattle.vault_listen.specs.Peers.{AreLinks, Link, events_of}
 use Rattle.vault_listen.specs.Service.{GoesOn}
 use Rattle.vault_listen.proofs.JoinedConnections.{failed_in, kept_after, unaccepted_in, undecided_after}
 use Rattle.vault_listen.proofs.TimeJumps.{jumped_after}
@@ -48,10 +49,10 @@ loop-preserved g c =
                 inv.told
                 (closed_then remaining contents (tells c.loop.peers) (tells c.accept.new.self) (tells p2)
                 c.in_ok-link.field-0 w.in-Some.link x w.in-Some.is c.in_ok-link.ensures.comes it.2));
-            served = subst (λ v. AreLinks (g.K.Timekeeper.tells c.args.time.now) honest holds leaves
+            served = subst (λ v. AreLinks (g.K.Timekeeper.tells c.args.time.now) g.T.Tables
                 (inv.links ++ Some x ∷ []) v0 v)
                 (sym w.vault-is)
-                (links_then (g.K.Timekeeper.tells c.args.time.now) honest holds leaves inv.links
+                (links_then (g.K.Timekeeper.tells c.args.time.now) g.T.Tables inv.links
                 (Some x ∷ []) v0 v1 v2 inv.served (v2, it.1, refl));
             on = All-append GoesOn inv.links (Some x ∷ []) inv.on
                 (All-cons GoesOn (Some x) [] it.3 (All-nil GoesOn));
@@ -68,9 +69,9 @@ loop-preserved g c =
             inv.told
             (lost_then remaining contents (tells c.loop.peers) (tells c.accept.new.self)
             c.in_ok-link.field-0 w.in_default.is c.in_ok-link.ensures.comes));
-        served = subst (λ v. AreLinks (g.K.Timekeeper.tells c.args.time.now) honest holds leaves
+        served = subst (λ v. AreLinks (g.K.Timekeeper.tells c.args.time.now) g.T.Tables
             (inv.links ++ None ∷ []) v0 v) (sym w.vault-is)
-            (links_then (g.K.Timekeeper.tells c.args.time.now) honest holds leaves inv.links
+            (links_then (g.K.Timekeeper.tells c.args.time.now) g.T.Tables inv.links
             (None ∷ []) v0 v1 v1 inv.served refl);
         on = All-append GoesOn inv.links lost inv.on (All-cons GoesOn None [] tt (All-nil GoesOn));
         whole = ap is_broken w.vault-is ∙ inv.whole;
@@ -90,7 +91,7 @@ returns-in_err-serve_link-clause-served g c =
     let v1 = c.loop.vault in
     let v2 = c.serve_link.new.vault in
     let p2 = c.serve_link.new.peers in
-    let w = vault_passing honest holds leaves v0 v2 in
+    let w = passage g.T.Tables v0 v2 in
     let it = c.in_err-serve_link.ensures.served in
     let x : Link = it.0 in
     let xs = inv.links ++ Some x ∷ [] in
@@ -102,9 +103,9 @@ returns-in_err-serve_link-clause-served g c =
       xs,
       failed_in tells_at c.args.connections inv.links x w r _ passed store
           (omega (arith, count, c.loop-test.true)) inv.on it.3
-          (undecided_after tells_at honest holds leaves g.met.T.Tables.settled inv.links x v0 v1 v2 inv.served
+          (undecided_after tells_at g.T.Tables g.met.T.Tables.settled inv.links x v0 v1 v2 inv.served
           inv.on it.1 it.3),
-      links_then (g.K.Timekeeper.tells c.args.time.now) honest holds leaves inv.links
+      links_then (g.K.Timekeeper.tells c.args.time.now) g.T.Tables inv.links
           (Some x ∷ []) v0 v1 v2 inv.served (v2, it.1, refl),
       told_then (tells c.args.peers.now) (tells c.loop.peers) (tells p2) inv.links (Some x) inv.told
           (closed_then g.P.Reader.Read.remaining g.P.Writer.Write.contents (tells c.loop.peers)
@@ -119,8 +120,8 @@ returns-clause-served g c =
       (
         omega (arith, inv.count, c.loop-test.false, c.loop.auto.counter-end),
         inv.on,
-        kept_after (g.K.Timekeeper.tells c.args.time.now) g.T.Tables.is_honest g.T.Tables.holds
-            g.T.Tables.leaves g.met.T.Tables.settled inv.links c.args.vault.now c.loop.vault inv.served
+        kept_after (g.K.Timekeeper.tells c.args.time.now) g.T.Tables g.met.T.Tables.settled inv.links
+            c.args.vault.now c.loop.vault inv.served
             inv.on,
       ),
       inv.served,
@@ -131,13 +132,12 @@ pub returns-in_err-link-clause-served : goal.returns-in_err-link-clause-served
 returns-in_err-link-clause-served g c =
     let inv = c.loop.invariant in
     let tells_at = g.K.Timekeeper.tells c.args.time.now in
-    let w = vault_passing g.T.Tables.is_honest g.T.Tables.holds g.T.Tables.leaves c.args.vault.now
-    c.loop.vault in (
+    let w = passage g.T.Tables c.args.vault.now c.loop.vault in (
       inv.links,
       unaccepted_in tells_at c.args.connections inv.links w c.from_residual.result _
           c.from_residual.ensures.1 c.in_err-link.ensures.fails.0
           (omega (arith, inv.count, c.loop-test.true)) inv.on
-          (kept_after tells_at g.T.Tables.is_honest g.T.Tables.holds g.T.Tables.leaves
+          (kept_after tells_at g.T.Tables
           g.met.T.Tables.settled inv.links c.args.vault.now c.loop.vault inv.served inv.on),
       inv.served,
       λ log h. c.in_err-link.ensures.fails.1 _ (inv.told log h),
@@ -163,9 +163,9 @@ returns-then-has_jumped-clause-served g c =
       | in-Some+in_ok-serve_link w ↦
           let it = w.in_ok-serve_link.ensures.served in
           let x : Link = it.0 in
-          jumped_after at honest holds leaves g.met.T.Tables.settled tells c.args.connections inv.links
+          jumped_after at g.T.Tables g.met.T.Tables.settled tells c.args.connections inv.links
           (Some x) v0 v1 v2 c.args.peers.now p1 p2 few inv.on it.3 inv.served
-          (subst (λ v. AreLinks at honest holds leaves (Some x ∷ []) v1 v) (sym w.vault-is)
+          (subst (λ v. AreLinks at g.T.Tables (Some x ∷ []) v1 v) (sym w.vault-is)
           (w.serve_link.new.vault, it.1, refl))
           inv.told
           (subst (λ p. (log : _) → tells p1 log → tells p (log ++ events_of (Some x ∷ [])))
@@ -174,9 +174,9 @@ returns-then-has_jumped-clause-served g c =
           (tells w.serve_link.new.peers) c.in_ok-link.field-0 w.in-Some.link x w.in-Some.is
           c.in_ok-link.ensures.comes it.2))
       | in_default w ↦
-          jumped_after at honest holds leaves g.met.T.Tables.settled tells c.args.connections inv.links
+          jumped_after at g.T.Tables g.met.T.Tables.settled tells c.args.connections inv.links
           None v0 v1 v2 c.args.peers.now p1 p2 few inv.on tt inv.served
-          (subst (λ v. AreLinks at honest holds leaves (None ∷ []) v1 v) (sym w.vault-is) refl)
+          (subst (λ v. AreLinks at g.T.Tables (None ∷ []) v1 v) (sym w.vault-is) refl)
           inv.told
           (subst (λ p. (log : _) → tells p1 log → tells p (log ++ events_of (None ∷ [])))
           (sym w.peers-is)

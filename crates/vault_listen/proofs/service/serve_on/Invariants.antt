@@ -11,7 +11,7 @@ invariant-loop g l = record {
   count : length links ≡ l.counter;
   told : (log : List Event) → g.P.Peers.tells l.initial.peers log
       → g.P.Peers.tells l.peers (log ++ events_of links);
-  served : AreLinks (g.K.Timekeeper.tells l.time) g.T.Tables.is_honest g.T.Tables.holds g.T.Tables.leaves
+  served : AreLinks (g.K.Timekeeper.tells l.time) g.T.Tables
       links l.initial.vault l.vault;
   on : All GoesOn links;
   whole : is_broken l.vault ≡ is_broken l.initial.vault;

@@ -5,17 +5,15 @@ use Rattle.std.proofs.lemmas.List.{map-id}
 use Rattle.vault_live.specs.Carrying.{AsksRows}
 use Rattle.vault_live.specs.First.{Ends}
 use Rattle.vault_core.specs.Proper.{AllProper}
+use Rattle.vault_engine.specs.Passing.{passage}
 use Rattle.vault_live.specs.Kinds.{KeepsRefused}
 use Rattle.vault_live.specs.declared.news.News.TheVariants.{Refused}
-use Rattle.vault_listen.specs.Peers.{vault_passing}
-use Rattle.vault_store.specs.Applied.{is_broken}
 use Rattle.vault_live.proofs.carrying.carry_list.Goals as goal
 
 pub returns-in-Ok-Err-clause-attends : goal.returns-in-Ok-Err-clause-attends
 returns-in-Ok-Err-clause-attends g c =
     attend_refused (AsksRows g.L.Kind.wants c.args.now c.args.rows.now)
-    (vault_passing g.T.Tables.is_honest g.T.Tables.holds g.T.Tables.leaves c.args.vault.now
-    c.changes.new.vault) c.subject.result c.in-Ok-Err.number c.args.now
+    (passage g.T.Tables c.args.vault.now c.changes.new.vault) c.subject.result c.in-Ok-Err.number c.args.now
     (λ V b. (c.in-Ok-Err.ensures.found V b).1)
 
 pub returns-in-Ok-Err-clause-settled : goal.returns-in-Ok-Err-clause-settled
@@ -33,14 +31,13 @@ returns-in-Ok-Err-clause-settled g c = λ none V b.
 pub returns-in-Err-Memory-clause-attends : goal.returns-in-Err-Memory-clause-attends
 returns-in-Err-Memory-clause-attends g c =
     attend_none (AsksRows g.L.Kind.wants c.args.now c.args.rows.now)
-    (vault_passing g.T.Tables.is_honest g.T.Tables.holds g.T.Tables.leaves c.args.vault.now
-    c.changes.new.vault) (rw c.in-Err-Memory.field-0-is at c.in-Err-Memory.ensures.failed)
+    (passage g.T.Tables c.args.vault.now c.changes.new.vault)
+    (rw c.in-Err-Memory.field-0-is at c.in-Err-Memory.ensures.failed)
 
 pub returns-in-Err-Store-clause-attends : goal.returns-in-Err-Store-clause-attends
 returns-in-Err-Store-clause-attends g c =
     attend_failed (AsksRows g.L.Kind.wants c.args.now c.args.rows.now)
-    (vault_passing g.T.Tables.is_honest g.T.Tables.holds g.T.Tables.leaves c.args.vault.now
-    c.changes.new.vault) (is_broken c.changes.new.vault)
+    (passage g.T.Tables c.args.vault.now c.changes.new.vault)
     (rw c.in-Err-Store.field-0-is at c.in-Err-Store.ensures.failed)
 
 pub returns-clause-attends : goal.returns-clause-attends
@@ -58,8 +55,8 @@ returns-clause-attends g c =
     ((rw c.in-Ok-Ok.field-0-is at c.in-Ok-Ok.ensures.steps) V b).keeps)
     c.carry_first-carried.result.end c.outcome.result
     (subst (λ ds. Ends c.carry_first-carried.result.end c.carry_first-carried.result.done ds
-    (vault_passing g.T.Tables.is_honest g.T.Tables.holds g.T.Tables.leaves c.changes.new.vault
-    c.carry_first-carried.new.vault)) (map-id c.as_slice-commands.result.now)
+    (passage g.T.Tables c.changes.new.vault c.carry_first-carried.new.vault))
+    (map-id c.as_slice-commands.result.now)
     c.carry_first-carried.ensures.ends)
     c.outcome.ensures.said c.outcome.ensures.store c.outcome.ensures.fault
 
@@ -77,7 +74,7 @@ returns-clause-settled g c =
     ∙ ((rw c.in-Ok-Ok.field-0-is at c.in-Ok-Ok.ensures.found) V b).0)
     c.carry_first-carried.result.end c.outcome.result
     (subst (λ ds. Ends c.carry_first-carried.result.end c.carry_first-carried.result.done ds
-    (vault_passing g.T.Tables.is_honest g.T.Tables.holds g.T.Tables.leaves c.changes.new.vault
-    c.carry_first-carried.new.vault)) (map-id c.as_slice-commands.result.now)
+    (passage g.T.Tables c.changes.new.vault c.carry_first-carried.new.vault))
+    (map-id c.as_slice-commands.result.now)
     c.carry_first-carried.ensures.ends)
     c.outcome.ensures.left c.outcome.ensures.refused

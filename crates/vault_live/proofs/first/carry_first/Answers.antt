@@ -1,4 +1,4 @@
-use Rattle.std.proofs.Common.{◌≡◌, ◌<◌, ◌+◌, List, [], ◌∷◌, ◌++◌, arith, length, map, take, subst, sym}
+use Rattle.std.proofs.Common.{◌≡◌, ◌<◌, ◌+◌, List, [], ◌∷◌, ◌++◌, arith, length, map, refl, take, subst, sym}
 use Rattle.std.proofs.lemmas.List.{length-map}
 use Rattle.vault_core.specs.declared.command.Command.{Command}
 use Rattle.vault_store.specs.Applied.{is_broken}
@@ -48,7 +48,7 @@ loop-item-preserved g c =
       honest = λ h. inv.honest (c.in-Ok-Ok.ensures.disk_honest h);
       kept = λ V h held. done_then g.T.Tables.is_honest g.T.Tables.holds g.T.Tables.leaves c.args.vault.now
           c.loop-item.vault c.change.new.vault (cs g it) c.loop-item.done
-          c.command-ordered.result (is_broken c.change.new.vault) (more g it) (below g it)
+          c.command-ordered.result (more g it) (below g it)
           c.in-Ok-Ok.ensures.disk_honest inv.kept (rw c.in-Ok-Ok.field-0-is at c.in-Ok-Ok.ensures.carried) V
           (h, held);
     }
@@ -89,7 +89,7 @@ returns-in-Err-Store-clause-ends g c =
       cut_next g.T.Tables.is_honest g.T.Tables.holds g.T.Tables.leaves c.args.vault.now
           c.loop-item.vault c.change.new.vault (cs g it) c.loop-item.done
           c.loop-item.invariant.kept c.command-ordered.result (more g it) c.in-Err-Store.ensures.disk_honest
-          (is_broken c.change.new.vault) (rw c.in-Err-Store.field-0-is at c.in-Err-Store.ensures.carried)
+          (is_broken c.change.new.vault) refl (rw c.in-Err-Store.field-0-is at c.in-Err-Store.ensures.carried)
           (carried g it).verdict,
     )
 

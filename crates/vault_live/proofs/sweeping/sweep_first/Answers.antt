@@ -4,10 +4,9 @@ use Rattle.vault_core.specs.Name.{IsName}
 use Rattle.vault_core.specs.Proper.{AllProper}
 use Rattle.vault_core.specs.Scalar.{IsMoment}
 use Rattle.vault_core.specs.declared.command.Command.{Command}
-use Rattle.vault_listen.specs.Peers.{vault_passing}
-use Rattle.vault_store.specs.Applied.{is_broken}
 use Rattle.vault_changes.proofs.Purging.{purges_carried}
 use Rattle.vault_changes.specs.Purges.{purges_of}
+use Rattle.vault_engine.specs.Passing.{passage}
 use Rattle.vault_live.proofs.Attending.{attend_failed, attend_none, attend_unswept, attend_waits}
 use Rattle.vault_live.proofs.Attending.{attends_first, ok_as}
 use Rattle.vault_live.proofs.ProperPurges.{purges_proper}
@@ -17,32 +16,32 @@ use Rattle.vault_live.proofs.sweeping.sweep_first.Goals as goal
 
 pub returns-in-Ok-Nothing-clause-attends : goal.returns-in-Ok-Nothing-clause-attends
 returns-in-Ok-Nothing-clause-attends g c =
-    attend_none (AsksFirst c.args.sweeper c.args.now) (vault_passing g.T.Tables.is_honest g.T.Tables.holds
-    g.T.Tables.leaves c.args.vault.now c.purges_due.new.vault)
+    attend_none (AsksFirst c.args.sweeper c.args.now) (passage g.T.Tables c.args.vault.now
+    c.purges_due.new.vault)
     (λ V b. (c.in-Ok-Nothing.ensures.due V b).1)
 
 pub returns-in-Ok-Ahead-clause-attends : goal.returns-in-Ok-Ahead-clause-attends
 returns-in-Ok-Ahead-clause-attends g c =
-    attend_unswept (AsksFirst c.args.sweeper c.args.now) (vault_passing g.T.Tables.is_honest g.T.Tables.holds
-    g.T.Tables.leaves c.args.vault.now c.purges_due.new.vault) c.args.sweeper.merchant
+    attend_unswept (AsksFirst c.args.sweeper c.args.now) (passage g.T.Tables c.args.vault.now
+    c.purges_due.new.vault) c.args.sweeper.merchant
     c.number-number.result c.args.now (λ V b. (c.in-Ok-Ahead.ensures.due V b).1)
 
 pub returns-in-Ok-Behind-clause-attends : goal.returns-in-Ok-Behind-clause-attends
 returns-in-Ok-Behind-clause-attends g c =
-    attend_waits (AsksFirst c.args.sweeper c.args.now) (vault_passing g.T.Tables.is_honest g.T.Tables.holds
-    g.T.Tables.leaves c.args.vault.now c.purges_due.new.vault) c.args.sweeper.merchant c.args.now
+    attend_waits (AsksFirst c.args.sweeper c.args.now) (passage g.T.Tables c.args.vault.now
+    c.purges_due.new.vault) c.args.sweeper.merchant c.args.now
     (rw c.in-Ok-Behind.field-0-is at c.in-Ok-Behind.ensures.due)
 
 pub returns-in-Err-Memory-clause-attends : goal.returns-in-Err-Memory-clause-attends
 returns-in-Err-Memory-clause-attends g c =
-    attend_none (AsksFirst c.args.sweeper c.args.now) (vault_passing g.T.Tables.is_honest g.T.Tables.holds
-    g.T.Tables.leaves c.args.vault.now c.purges_due.new.vault)
+    attend_none (AsksFirst c.args.sweeper c.args.now) (passage g.T.Tables c.args.vault.now
+    c.purges_due.new.vault)
     (rw c.in-Err-Memory.field-0-is at c.in-Err-Memory.ensures.failed)
 
 pub returns-in-Err-Store-clause-attends : goal.returns-in-Err-Store-clause-attends
 returns-in-Err-Store-clause-attends g c =
-    attend_failed (AsksFirst c.args.sweeper c.args.now) (vault_passing g.T.Tables.is_honest g.T.Tables.holds
-    g.T.Tables.leaves c.args.vault.now c.purges_due.new.vault) (is_broken c.purges_due.new.vault)
+    attend_failed (AsksFirst c.args.sweeper c.args.now) (passage g.T.Tables c.args.vault.now
+    c.purges_due.new.vault)
     (rw c.in-Err-Store.field-0-is at c.in-Err-Store.ensures.failed)
 
 pub carry_first-carried-requires-clause-carried : goal.carry_first-carried-requires-clause-carried

@@ -1,6 +1,6 @@
 use Rattle.std.proofs.Common.{◌++◌, arith, List, [], ◌∷◌, Ok, Err, refl}
 use Rattle.vault_core.specs.declared.command.Command.{Command}
-use Rattle.vault_listen.specs.Peers.{vault_passing}
+use Rattle.vault_engine.specs.Passing.{passage, vault_passing}
 use Rattle.vault_live.specs.Turns.{AllKept, Turn}
 use Rattle.vault_live.specs.Turns.Turn.{Attended}
 use Rattle.vault_live.proofs.Turning.{attend_err, attend_ok, said_first, told_both, told_links, told_quiet}
@@ -13,8 +13,7 @@ pub returns-in-Err-clause-turned : goal.returns-in-Err-clause-turned
 returns-in-Err-clause-turned g c =
     let at = g.K.Timekeeper.tells c.args.time.now in
     let asks = g.O.Office.asks c.args.office.now at in
-    let w = vault_passing g.T.Tables.is_honest g.T.Tables.holds g.T.Tables.leaves c.args.vault.now
-    c.attend.new.vault in
+    let w = passage g.T.Tables c.args.vault.now c.attend.new.vault in
     let it = attend_err at asks w c.in-Err.fault c.in-Err.ensures.attends
     (g.W.Write.contents c.args.output.now.inner) in
     (it.0, it.1, told_quiet (g.P.Peers.tells c.args.peers.now) it.0 it.2, it.3)
@@ -24,13 +23,11 @@ module _ (g : Over) (c : After-say g) where
   attended : (cs : List Command) × AllKept (g.K.Timekeeper.tells c.args.time.now)
       (g.O.Office.asks c.args.office.now (g.K.Timekeeper.tells c.args.time.now))
       (Attended cs c.in-Ok.news ∷ [])
-      (vault_passing g.T.Tables.is_honest g.T.Tables.holds g.T.Tables.leaves c.args.vault.now
-      c.attend.new.vault)
+      (passage g.T.Tables c.args.vault.now c.attend.new.vault)
   attended =
       attend_ok (g.K.Timekeeper.tells c.args.time.now)
       (g.O.Office.asks c.args.office.now (g.K.Timekeeper.tells c.args.time.now))
-      (vault_passing g.T.Tables.is_honest g.T.Tables.holds g.T.Tables.leaves c.args.vault.now
-      c.attend.new.vault) c.in-Ok.news c.in-Ok.ensures.attends
+      (passage g.T.Tables c.args.vault.now c.attend.new.vault) c.in-Ok.news c.in-Ok.ensures.attends
 
   first : Turn
   first = Attended attended.0 c.in-Ok.news

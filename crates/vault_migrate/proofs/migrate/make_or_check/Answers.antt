@@ -1,4 +1,4 @@
-use Rattle.std.proofs.Common.{◌≡◌, ◌∙◌, ap, arith, inl, inr, Err}
+use Rattle.std.proofs.Common.{◌≡◌, ◌∙◌, ap, arith, inl, inr, rules, Err}
 use Rattle.sqlite.specs.Held.{state}
 use Rattle.vault_migrate.proofs.Moving.{checked_less, each_err, found_after}
 use Rattle.vault_verdict.proofs.Results.{passed_as}
@@ -38,62 +38,56 @@ module _ (g : Over) (c : After-check g) where
 
 -- ---- a refusal
 
-pub returns-in_err-check-in-Err-Taken-clause-left : goal.returns-in_err-check-in-Err-Taken-clause-left
-returns-in_err-check-in-Err-Taken-clause-left g c clean =
-    found g (goal.at.returns-in_err-check-in-Err-Taken-clause-left g c).After-check clean
-
-pub returns-in_err-check-in-Err-Taken-clause-damaged : goal.returns-in_err-check-in-Err-Taken-clause-damaged
-returns-in_err-check-in-Err-Taken-clause-damaged g c clean =
-    let same = same g (goal.at.returns-in_err-check-in-Err-Taken-clause-damaged g c).After-check in
-    passed_as _ c.from_residual.result _ c.from_residual.ensures.1
-    (rw same at (c.in_err-check-in-Err-Taken.ensures.damaged clean))
-
-pub returns-in_err-check-in-Err-Taken-clause-wrong : goal.returns-in_err-check-in-Err-Taken-clause-wrong
-returns-in_err-check-in-Err-Taken-clause-wrong g c clean =
-    let same = same g (goal.at.returns-in_err-check-in-Err-Taken-clause-wrong g c).After-check in
-    passed_as _ c.from_residual.result _ c.from_residual.ensures.1
-    (rw same at (c.in_err-check-in-Err-Taken.ensures.wrong clean))
-
-pub returns-in_err-check-in-Err-Taken-clause-clean : goal.returns-in_err-check-in-Err-Taken-clause-clean
-returns-in_err-check-in-Err-Taken-clause-clean g c =
-    clean_before g (goal.at.returns-in_err-check-in-Err-Taken-clause-clean g c).After-check
-
-pub returns-in_err-check-in-Err-Taken-clause-spared : goal.returns-in_err-check-in-Err-Taken-clause-spared
-returns-in_err-check-in-Err-Taken-clause-spared g c clean =
-    let same = same g (goal.at.returns-in_err-check-in-Err-Taken-clause-spared g c).After-check in
-    passed_as _ c.from_residual.result _ c.from_residual.ensures.1
-    (rw same at (c.in_err-check-in-Err-Taken.ensures.spared clean))
-
-pub returns-in_err-check-in-Err-Taken-clause-unwritten :
-    goal.returns-in_err-check-in-Err-Taken-clause-unwritten
-returns-in_err-check-in-Err-Taken-clause-unwritten g c clean =
-    each_err c.from_residual.result (λ e other.
-    no_more g (goal.at.returns-in_err-check-in-Err-Taken-clause-unwritten g c).After-check clean)
-
-pub returns-in_err-check-in-Err-Taken-clause-unmade : goal.returns-in_err-check-in-Err-Taken-clause-unmade
-returns-in_err-check-in-Err-Taken-clause-unmade g c clean =
-    each_err c.from_residual.result (λ e some.
-    no_more g (goal.at.returns-in_err-check-in-Err-Taken-clause-unmade g c).After-check clean)
+pub returns-in_err-check-in-Err-Taken-clause-does : goal.returns-in_err-check-in-Err-Taken-clause-does
+returns-in_err-check-in-Err-Taken-clause-does g c =
+    let at = (goal.at.returns-in_err-check-in-Err-Taken-clause-does g c).After-check in
+    let same = same g at in
+    let rows = rw same at c.check.ensures.rows in
+    let failed = c.from_residual.ensures.1 in
+    record {
+      idle = search rules;
+      clean = clean_before g at;
+      kept = search rules;
+      same = search rules;
+      blank = search rules;
+      checked = search rules;
+      left = λ clean. found g at clean;
+      unwritten = λ clean. each_err c.from_residual.result (λ e other. no_more g at clean);
+      unmade = λ clean. each_err c.from_residual.result (λ e some. no_more g at clean);
+      rows = record {
+        damaged = λ clean. passed_as _ c.from_residual.result _ failed
+            (rw same at (c.in_err-check-in-Err-Taken.ensures.rows.damaged clean));
+        wrong = λ clean. passed_as _ c.from_residual.result _ failed
+            (rw same at (c.in_err-check-in-Err-Taken.ensures.rows.wrong clean));
+        spared = λ clean. passed_as _ c.from_residual.result _ failed
+            (rw same at (c.in_err-check-in-Err-Taken.ensures.rows.spared clean));
+      };
+    }
 
 -- ---- a vault that is as it should be
 
-pub returns-in_ok-check-in-Err-Taken-clause-left : goal.returns-in_ok-check-in-Err-Taken-clause-left
-returns-in_ok-check-in-Err-Taken-clause-left g c clean =
-    found g (goal.at.returns-in_ok-check-in-Err-Taken-clause-left g c).After-check clean
-
-pub returns-in_ok-check-in-Err-Taken-clause-clean : goal.returns-in_ok-check-in-Err-Taken-clause-clean
-returns-in_ok-check-in-Err-Taken-clause-clean g c =
-    clean_before g (goal.at.returns-in_ok-check-in-Err-Taken-clause-clean g c).After-check
-
-pub returns-in_ok-check-in-Err-Taken-clause-checked : goal.returns-in_ok-check-in-Err-Taken-clause-checked
-returns-in_ok-check-in-Err-Taken-clause-checked g c clean full =
-    let same = same g (goal.at.returns-in_ok-check-in-Err-Taken-clause-checked g c).After-check in
-    elim ((rw same at (c.in_ok-check-in-Err-Taken.ensures.sound clean)) full)
-    [ inl none ↦ inr none.0 | inr it ↦ inl it.it ]
+pub returns-in_ok-check-in-Err-Taken-clause-does : goal.returns-in_ok-check-in-Err-Taken-clause-does
+returns-in_ok-check-in-Err-Taken-clause-does g c =
+    let at = (goal.at.returns-in_ok-check-in-Err-Taken-clause-does g c).After-check in
+    let same = same g at in
+    record {
+      idle = search rules;
+      clean = clean_before g at;
+      kept = search rules;
+      same = search rules;
+      blank = search rules;
+      checked = λ clean full.
+          elim ((rw same at (c.in_ok-check-in-Err-Taken.ensures.sound clean)) full)
+          [ inl none ↦ inr none.0 | inr it ↦ inl it.it ];
+      left = λ clean. found g at clean;
+      unwritten = search rules;
+      unmade = search rules;
+      rows = search rules;
+    }
 
 pub returns-in_ok-check-in-Err-Taken-clause-known : goal.returns-in_ok-check-in-Err-Taken-clause-known
 returns-in_ok-check-in-Err-Taken-clause-known g c other =
     let at = (goal.at.returns-in_ok-check-in-Err-Taken-clause-known g c).After-check in
     let same = same g at in
-    absurd ((rw same at c.in_ok-check-in-Err-Taken.ensures.foreign)
+    absurd ((rw same at c.in_ok-check-in-Err-Taken.ensures.foreign.refused)
     (record { some = c.make_schema.ensures.taken.0 (taken g at); other = other }))

@@ -43,7 +43,7 @@ returns-in-Some-clause-crash g c clean = record {
 pub returns-in-Some-clause-migrates : goal.returns-in-Some-clause-migrates
 returns-in-Some-clause-migrates g c =
     migrates_older next_of c.in-Some.version (older g c).0 (older g c).1
-    (assumption c.move_up.ensures)
+    c.move_up.ensures.moves
 
 -- ---- no older version
 
@@ -63,12 +63,11 @@ returns-in-None-clause-made g c =
 pub returns-in-None-clause-crash : goal.returns-in-None-clause-crash
 returns-in-None-clause-crash g c clean = record {
   older = λ v V h db left.
-      let it = kept_newest _ _ (none_older g c) (c.make_or_check.ensures.left clean) v V h in
+      let it = kept_newest _ _ (none_older g c) (c.make_or_check.ensures.does.left clean) v V h in
       inl (subst (λ (x : Version). AreIn x V db) (sym it.0) (it.1 db left));
-  found = c.make_or_check.ensures.left clean;
+  found = c.make_or_check.ensures.does.left clean;
 }
 
 pub returns-in-None-clause-migrates : goal.returns-in-None-clause-migrates
 returns-in-None-clause-migrates g c =
-    migrates_else next_of refl (none_older g c)
-    (assumption c.make_or_check.ensures)
+    migrates_else next_of refl (none_older g c) c.make_or_check.ensures.does

@@ -47,7 +47,7 @@ returns-in-Some-clause-crash g c clean = record {
 pub returns-in-Some-clause-migrates : goal.returns-in-Some-clause-migrates
 returns-in-Some-clause-migrates g c =
     migrates_older (λ v. newest) c.in-Some.version (older g c).0 (older g c).1
-    (assumption c.climb_up.ensures)
+    c.climb_up.ensures.moves
 
 -- ---- no older version
 
@@ -62,17 +62,16 @@ pub returns-in-None-clause-stood : goal.returns-in-None-clause-stood
 returns-in-None-clause-stood g c clean =
     if_so c.make_or_check.result
     (sound_where_full (state g.S.Store c.args.conn.now).now (none_older g c))
-    (c.make_or_check.ensures.checked clean)
+    (c.make_or_check.ensures.does.checked clean)
 
 pub returns-in-None-clause-crash : goal.returns-in-None-clause-crash
 returns-in-None-clause-crash g c clean = record {
   older = λ v V h db left.
-      let it = kept_newest _ _ (none_older g c) (c.make_or_check.ensures.left clean) v V h in
+      let it = kept_newest _ _ (none_older g c) (c.make_or_check.ensures.does.left clean) v V h in
       (newest, it.1 db left);
-  found = c.make_or_check.ensures.left clean;
+  found = c.make_or_check.ensures.does.left clean;
 }
 
 pub returns-in-None-clause-migrates : goal.returns-in-None-clause-migrates
 returns-in-None-clause-migrates g c =
-    migrates_else (λ v. newest) refl (none_older g c)
-    (assumption c.make_or_check.ensures)
+    migrates_else (λ v. newest) refl (none_older g c) c.make_or_check.ensures.does

@@ -15,8 +15,7 @@ returns-clause-held g c clean V h =
     still_held c.args.version V (state g.S.Store c.args.conn.now) (state g.S.Store c.verdict.new.conn) h
     (c.in_ok-olders.ensures.kept clean h.is.schema) c.verdict.ensures.nothing_new.limit
 
-pub returns-clause-live : goal.returns-clause-live
-returns-clause-live g c clean full = (c.in_ok-olders.ensures.sound clean full).is
-
 pub returns-clause-sound : goal.returns-clause-sound
-returns-clause-sound g c clean full = (c.in_ok-olders.ensures.sound clean full).it
+returns-clause-sound g c clean full =
+    let sound = c.in_ok-olders.ensures.sound clean full in
+    (sound.is, sound.it)

@@ -26,8 +26,8 @@ returns g c image moments so found =
         found = found;
         leaves = λ next leaves. leaves;
       },
-      λ next leaves. c.promise_is_kept.ensures.each image next c.run.result.1 _ c.run.result.0 c.args.time.now
-          c.args.desk.now c.args.paths moments turns c.args.input.now c.run.new.input c.args.output.now told
-          c.run.new.output
+      λ next leaves. c.promise_is_kept.ensures.each c.args.time.now c.args.desk.now c.args.paths image next _
+          c.run.result moments turns
+          c.args.input.now c.run.new.input c.args.output.now told c.run.new.output
           c.args.errors.now c.run.new.errors so does found leaves,
     )

@@ -11,7 +11,7 @@ use Rattle.vault_verdict.proofs.FirstAndBehind.{AreJudged, judged_err, judged_ok
 use Rattle.vault_verdict.proofs.Results.{err_where, ok_where, on_where, passed_on}
 use Rattle.vault_verdict.proofs.verdict.verdict.Given.{Over}
 use Rattle.vault_verdict.proofs.verdict.verdict.Goals as goal
-use Rattle.vault_verdict.specs.Judging.{AreOnward, JudgesAll}
+use Rattle.vault_verdict.specs.Judging.{AreOnward, JudgesAll, first_rows}
 use Rattle.vault_verdict.specs.Opened.{AreOldersIn, IsSoundIn}
 use Rattle.vault_verdict.specs.ReadAs.{IsFullIn}
 use Rattle.vault_verdict.specs.Reading.{AreCardsIn, IsUnreadIn, IsUnreadOne}
@@ -63,8 +63,9 @@ module _ (g : Over) (c : goal.After-drop-versions-2 g)
   -- they are those of the file
   read_of : IsFullIn c.args.version (state g.S.Store c.args.conn.now).now → (olders : List OldEntry)
       (rows : Rows) → AreCardsIn c.args.version (state g.S.Store c.read_first.new.conn).now olders rows.cards
-      → AreOnward c.args.version olders c.in_ok-versions.versions.items c.in_ok-first.first.merchants.items
-      c.in_ok-first.first.counts.items rows.cards (state g.S.Store c.read_first.new.conn).now rows
+      → AreOnward c.args.version olders (first_rows c.in_ok-versions.versions.items
+      c.in_ok-first.first.merchants.items c.in_ok-first.first.counts.items rows.cards)
+      (state g.S.Store c.read_first.new.conn).now rows
       → AreRead c.args.version (state g.S.Store c.args.conn.now).now olders rows
   read_of ours olders rows cards onward =
       read_onward c.args.version (state g.S.Store c.args.conn.now) (state g.S.Store c.version_rows.new.conn)

@@ -1,7 +1,6 @@
 use Rattle.std.proofs.Common.{◌∙◌, Ok, Err, subst, sym}
 use Rattle.std.specs.Prelude.{IfSome}
-use Rattle.vault_engine.specs.Passing.{Passage}
-use Rattle.vault_listen.specs.Peers.{vault_passing}
+use Rattle.vault_engine.specs.Passing.{Passage, passage}
 use Rattle.vault_live.proofs.Attending.{attends_at}
 use Rattle.vault_live.specs.Following.{AreSettled, Looks}
 use Rattle.vault_live.proofs.following.Following.carry.Given.{Over}
@@ -20,8 +19,7 @@ module _ (g : Over) (c : After-carry_list g) where
       (sym c.take.ensures.value ∙ c.in-Some.is) c.requires.remembers.rows)
 
   abbrev w : Passage
-  w = vault_passing g.T.Tables.is_honest g.T.Tables.holds g.T.Tables.leaves c.args.vault.now
-      c.carry_list.new.vault
+  w = passage g.T.Tables c.args.vault.now c.carry_list.new.vault
 
 pub returns-in-Ok-default-true-clause-attends : goal.returns-in-Ok-default-true-clause-attends
 returns-in-Ok-default-true-clause-attends g c =

@@ -1,5 +1,5 @@
 use Rattle.std.proofs.Common.{subst}
-use Rattle.vault_listen.specs.Peers.{vault_passing}
+use Rattle.vault_engine.specs.Passing.{passage}
 use Rattle.vault_live.proofs.Attending.{attend_refused, attends_as}
 use Rattle.vault_store.specs.Applied.{tables_of}
 use Rattle.vault_live.specs.Carrying.{AsksAt}
@@ -14,8 +14,7 @@ returns-clause-attends g c =
     let tells = g.K.Timekeeper.tells c.args.time.now in
     let now = c.in-Some.now in
     attends_as (AsksAt names wants says now) (λ V cs. Asks names wants says tells V cs)
-    (vault_passing g.T.Tables.is_honest g.T.Tables.holds g.T.Tables.leaves c.args.vault.now
-    c.carry.new.vault) c.carry.result
+    (passage g.T.Tables c.args.vault.now c.carry.new.vault) c.carry.result
     (λ V cs b it. record {
       rows = it.0;
       settled = it.1;
@@ -33,6 +32,6 @@ returns-in-Faulty-clause-attends g c =
     let says = g.D.Desk.says c.args.self.now.desk.now c.args.self.now.path.now in
     let tells = g.K.Timekeeper.tells c.args.time.now in
     attend_refused (λ V cs. Asks g.L.Kind.names g.L.Kind.wants says tells V cs)
-    (vault_passing g.T.Tables.is_honest g.T.Tables.holds g.T.Tables.leaves c.args.vault.now c.args.vault.now)
+    (passage g.T.Tables c.args.vault.now c.args.vault.now)
     c.subject-in-Faulty.result c.in-Faulty.number c.in-Some.now
     (λ V b. (b.1, g.met.T.Tables.settled (tables_of c.args.vault.now) V b.1.0 b.0))

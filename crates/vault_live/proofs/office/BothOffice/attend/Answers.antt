@@ -1,5 +1,5 @@
 use Rattle.std.proofs.Common.{◌⊎◌, inr, Ok, subst}
-use Rattle.vault_listen.specs.Peers.{vault_passing}
+use Rattle.vault_engine.specs.Passing.{passage}
 use Rattle.vault_live.proofs.Attending.{attends_as, attends_then, untouched}
 use Rattle.vault_live.specs.Turns.{Asking, Attends}
 use Rattle.vault_live.proofs.office.BothOffice.attend.Goals as goal
@@ -7,10 +7,8 @@ use Rattle.vault_live.proofs.office.BothOffice.attend.Goals as goal
 pub returns-in-Nothing-clause-attends : goal.returns-in-Nothing-clause-attends
 returns-in-Nothing-clause-attends g c =
     let tells = g.K.Timekeeper.tells c.args.time.now in
-    let early = vault_passing g.T.Tables.is_honest g.T.Tables.holds g.T.Tables.leaves c.args.vault.now
-    c.attend.new.vault in
-    let late = vault_passing g.T.Tables.is_honest g.T.Tables.holds g.T.Tables.leaves c.attend.new.vault
-    c.attend-in-Nothing.new.vault in
+    let early = passage g.T.Tables c.args.vault.now c.attend.new.vault in
+    let late = passage g.T.Tables c.attend.new.vault c.attend-in-Nothing.new.vault in
     let one : Asking = λ V cs. g.A.Office.asks c.args.self.now.first tells V cs in
     let other : Asking = λ V cs. g.B.Office.asks c.args.self.now.second tells V cs in
     let either : Asking = λ V cs. one V cs ⊎ other V cs in

@@ -1,5 +1,5 @@
 use Rattle.std.proofs.Common.{subst}
-use Rattle.vault_listen.specs.Peers.{vault_passing}
+use Rattle.vault_engine.specs.Passing.{passage}
 use Rattle.vault_live.proofs.Attending.{attends_as}
 use Rattle.vault_live.specs.Sweeping.{AsksFirst, AsksPurges}
 use Rattle.vault_live.proofs.sweeps.SweepsOffice.attend.Goals as goal
@@ -11,8 +11,7 @@ returns-clause-attends g c =
     let it = c.in-Some.sweeper.1 in
     let now = c.in-Some-moment.now in
     attends_as (AsksFirst it now) (λ V cs. AsksPurges c.args.self.now.began.now says tells V cs)
-    (vault_passing g.T.Tables.is_honest g.T.Tables.holds g.T.Tables.leaves c.args.vault.now
-    c.sweep.new.vault) c.sweep.result
+    (passage g.T.Tables c.args.vault.now c.sweep.new.vault) c.sweep.result
     (λ V cs b are. record {
       sweeper = it;
       named = c.in-Some.ensures.named;
