@@ -1,10 +1,10 @@
 pub mod BodyLemmas
-pub mod BranchLemmas
 pub mod FindLemmas
 pub mod NameLemmas
-pub mod ParameterLemmas
+pub mod Patterns
 pub mod PlainBodies
 pub mod RoomLemmas
+pub mod RowLemmas
 pub mod SegmentLemmas
 pub mod Statuses
 pub mod TemplateLemmas

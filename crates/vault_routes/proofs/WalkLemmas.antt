@@ -1,20 +1,23 @@
 -- What the parameters of a template take of a target.
-use Rattle.std.proofs.Common.{◌≡◌, ℕ, ◌+◌, ◌-◌, ◌<◌, ◌≤◌, ◌∙◌, List, [], ◌∷◌, ◌++◌, length, drop, get_or}
-use Rattle.std.proofs.Common.{codes, Some, refl, sym, ap, arith, add-zero, ◌⊎◌, inl, inr, append-nil}
-use Rattle.std.specs.Prelude.{option_map}
+use Rattle.std.proofs.Common.{◌≡◌, ℕ, ◌+◌, ◌-◌, ◌<◌, ◌≤◌, ◌∙◌, List, [], ◌∷◌, ◌++◌, length, drop, get_or, Bool}
+use Rattle.std.proofs.Common.{true, Some, refl, sym, ap, arith, add-zero, ◌⊎◌, inl, inr, append_assoc, ◌==◌, false}
+use Rattle.std.proofs.Common.{codes, cond, true≢false}
+use Rattle.std.specs.Prelude.{map, option_map, zip}
 use Rattle.std.proofs.Math.Seq.{drop-append_seam, take-append_seam}
-use Rattle.std.proofs.lemmas.Bool.{lt-ltb, le-leb, le-ltb}
+use Rattle.std.proofs.lemmas.Bool.{and_parts, eqb-true, lt-ltb, le-leb, le-ltb, ltb-true}
 use Rattle.std.proofs.lemmas.List.{drop-drop, get_or-drop, length-append, length-drop}
 use Rattle.matchit.specs.Level.{IsText}
 use Rattle.matchit.specs.Params.{after_token, named, part_of, walk, wild_from, wild_stop}
+use Rattle.matchit.specs.Router.{RouteOf}
 use Rattle.matchit.specs.Rows.{param_token}
-use Rattle.vault_routes.specs.Route.{target_at}
+use Rattle.vault_routes.specs.Route.{target_at, target_by}
 use Rattle.vault_routes.specs.declared.table.Place.{Place}
-use Rattle.vault_routes.specs.declared.table.Place.TheVariants as place
-use Rattle.vault_routes.proofs.BranchLemmas.{IsText-from_test}
-use Rattle.vault_routes.proofs.ParameterLemmas.{IsPlain}
+use Rattle.vault_routes.proofs.Patterns.{IsPlain, before_slash, begins-is, both_parts, fits}
+use Rattle.vault_routes.proofs.Patterns.{fits-closed, fits-nothing, from_slash, is_closed, is_literal}
+use Rattle.vault_routes.proofs.Patterns.{is_tidy, parameter_count, plain_before, taken, taken-count, token_cases}
 use Rattle.vault_routes.proofs.SegmentLemmas.{segment-at_slash}
-use Rattle.vault_routes.proofs.TemplateLemmas.{AreTexts, TakesToken, before_merchant, row_for, target_text}
+use Rattle.vault_routes.proofs.TemplateLemmas.{IsRowAt, count, names_by, names_token, pattern_of, short}
+use Rattle.vault_routes.proofs.TemplateLemmas.{texts_by, tidy}
 
 -- bytes before a parameter stand for themselves
 wild_from-text : (w rest : List ℕ) (len token at : ℕ) → IsText w → at + length w ≤ len
@@ -52,7 +55,7 @@ module _
     (pattern_is : drop token pattern ≡ w ++ param_token ∷ more) (path_is : drop at path ≡ w ++ (m ++ rest))
     (ends : Ends more rest)
   where
-    pattern_size : token + length w + 1 + length more ≡ length pattern
+    pub pattern_size : token + length w + 1 + length more ≡ length pattern
     pattern_size =
         let n = ap length pattern_is ∙ length-append w (param_token ∷ more) in
         let d = length-drop token pattern in
@@ -76,8 +79,8 @@ module _
     at_parameter : drop (token + length w) pattern ≡ param_token ∷ more
     at_parameter = drop-part pattern token w (param_token ∷ more) pattern_is
 
-    behind : drop (token + length w + 1) pattern ≡ more
-    behind = drop-part pattern (token + length w) (param_token ∷ []) more at_parameter
+    pub pattern_behind : drop (token + length w + 1) pattern ≡ more
+    pattern_behind = drop-part pattern (token + length w) (param_token ∷ []) more at_parameter
 
     -- it ends where the slash stands, or with the path
     stop : wild_stop pattern (token + length w) path (at + length w) ≡ at + length w + length m
@@ -100,7 +103,7 @@ module _
         by (inr (x, y, some_more, some_rest)) =
             let next : token + length w + 1 < length pattern =
             omega (arith, pattern_size, ap length some_more) in
-            let suffix = behind ∙ some_more in
+            let suffix = pattern_behind ∙ some_more in
             let path_left = left ∙ ap (λ r. m ++ r) some_rest in
             let size = length-append m (47 ∷ []) in
             rw (
@@ -112,8 +115,8 @@ module _
               segment-at_slash m y plain.one_part,
             ) (omega (arith, size))
 
-    taken : part_of path (at + length w) (at + length w + length m) ≡ m
-    taken =
+    part-taken : part_of path (at + length w) (at + length w + length m) ≡ m
+    part-taken =
         let low : at + length w ≤ at + length w + length m = omega arith in
         let high : at + length w + length m ≤ length path = omega (arith, path_size) in
         let size : at + length w + length m - (at + length w) ≡ length m = omega arith in
@@ -123,72 +126,145 @@ module _
         → walk pattern text path (name ∷ names) token at
         ≡ (part_of text name.0 name.1, m)
         ∷ walk pattern text path names (after_token (token + length w)) (at + length w + length m)
-    walk-parameter text name names = rw (start, stop, taken) refl
+    walk-parameter text name names = rw (start, stop, part-taken) refl
 
     pub path_behind : drop (at + length w + length m) path ≡ rest
     path_behind = drop-part path (at + length w) m rest left
 
--- what the parameters of a place's template take
-abbrev pub values : Place → List ℕ → List ℕ → List (List ℕ × List ℕ)
-values place.Tokens m t = (codes "m", m) ∷ []
-values place.Token m t = (codes "m", m) ∷ (codes "t", t) ∷ []
-values place.Number m t = (codes "m", m) ∷ (codes "t", t) ∷ []
-values place.Revoke m t = (codes "m", m) ∷ (codes "t", t) ∷ []
-values place.Audit m t = (codes "m", m) ∷ []
+-- ---- all parameters of a pattern
 
-text_before : IsText before_merchant
-text_before = IsText-from_test before_merchant refl
+literal-byte : (x : ℕ) → is_literal x ≡ true → x < 256
+literal-byte x e = let low = ltb-true x 128 (and_parts _ _ e).0 in omega (arith, low)
 
--- one parameter, and a text that begins with a slash
-walk-one : (more text m : List ℕ) → IsPlain m
-    → walk (before_merchant ++ param_token ∷ 47 ∷ more) text (before_merchant ++ (m ++ 47 ∷ more))
-    ((15, 16) ∷ []) 0 0
-    ≡ (part_of text 15 16, m) ∷ []
-walk-one more text m plain =
-    walk-parameter (before_merchant ++ param_token ∷ 47 ∷ more) (before_merchant ++ (m ++ 47 ∷ more)) 0 0
-    before_merchant (47 ∷ more) m (47 ∷ more) text_before plain refl refl (inr (more, more, refl, refl)) text
-    (15, 16) []
+IsText-push : (w : List ℕ) (x : ℕ) → IsText w → x < 256 → IsText (w ++ x ∷ [])
+IsText-push [] x text low = (low, tt)
+IsText-push (b ∷ w) x text low = (text.0, IsText-push w x text.1 low)
 
--- two parameters
-walk-two : (more text m t : List ℕ) → IsPlain m → IsPlain t → Ends more more
-    → walk (before_merchant ++ param_token ∷ (codes "/tokens/" ++ param_token ∷ more)) text
-    (before_merchant ++ (m ++ (codes "/tokens/" ++ (t ++ more)))) ((15, 16) ∷ (26, 27) ∷ []) 0 0
-    ≡ (part_of text 15 16, m) ∷ (part_of text 26 27, t) ∷ []
-walk-two more text m t plain one ends =
-    let pattern = before_merchant ++ param_token ∷ (codes "/tokens/" ++ param_token ∷ more) in
-    let path = before_merchant ++ (m ++ (codes "/tokens/" ++ (t ++ more))) in
-    let slash : Ends (codes "/tokens/" ++ param_token ∷ more) (codes "/tokens/" ++ (t ++ more)) =
-    inr (codes "tokens/" ++ param_token ∷ more, codes "tokens/" ++ (t ++ more), refl, refl) in
-    let left = path_behind pattern path 0 0 before_merchant (codes "/tokens/" ++ param_token ∷ more) m
-    (codes "/tokens/" ++ (t ++ more)) text_before plain refl refl slash in
-    walk-parameter pattern path 0 0 before_merchant (codes "/tokens/" ++ param_token ∷ more) m
-    (codes "/tokens/" ++ (t ++ more)) text_before plain refl refl slash text (15, 16) ((26, 27) ∷ [])
-    ∙ ap (λ vs. (part_of text 15 16, m) ∷ vs)
-    (walk-parameter pattern path 15 (0 + 14 + length m) (codes "/tokens/") more t more
-    (IsText-from_test (codes "/tokens/") refl) one refl left ends text (26, 27) [])
+-- behind a parameter, pattern and path both end or both go on with a slash
+ends-both : (pattern path : List ℕ) → is_closed pattern ≡ true → fits pattern path ≡ true → Ends pattern path
+ends-both [] [] closed fit = inl (refl, refl)
+ends-both [] (b ∷ path) closed fit = absurd (true≢false (sym fit))
+ends-both (x ∷ pattern) [] closed fit = absurd (true≢false (sym fit ∙ fits-nothing x pattern))
+ends-both (x ∷ pattern) (b ∷ path) closed fit =
+    inr (
+      pattern,
+      path,
+      ap (λ y. y ∷ pattern) (eqb-true _ _ closed),
+      ap (λ y. y ∷ path) (eqb-true _ _ (fits-closed (x ∷ pattern) (b ∷ path) closed fit)),
+    )
 
-pub walk-target : (p : Place) (m t : List ℕ) → AreTexts p m t
-    → walk (row_for p).pattern (row_for p).text (target_text p m t) (row_for p).names 0 0 ≡ values p m t
-walk-target place.Tokens m t are = walk-one (codes "tokens") (row_for place.Tokens).text m are.merchant
-walk-target place.Audit m t are = walk-one (codes "audit") (row_for place.Audit).text m are.merchant
-walk-target place.Token m t are =
-    let row = row_for place.Token in
-    ap (λ u. walk row.pattern row.text (before_merchant ++ (m ++ (codes "/tokens/" ++ u))) row.names 0 0)
-    (sym (append-nil t))
-    ∙ walk-two [] row.text m t are.merchant are.token (inl (refl, refl))
-walk-target place.Number m t are =
-    walk-two (codes "/number") (row_for place.Number).text m t are.merchant are.token
-    (inr (codes "number", codes "number", refl, refl))
-walk-target place.Revoke m t are =
-    walk-two (codes "/revoke") (row_for place.Revoke).text m t are.merchant are.token
-    (inr (codes "revoke", codes "revoke", refl, refl))
+-- each name with what its parameter takes
+abbrev pairs : List ℕ → List (ℕ × ℕ) → List ℕ → List ℕ → List (List ℕ × List ℕ)
+pairs text names pattern path = zip (map (λ n. part_of text n.0 n.1) names) (taken pattern path)
 
--- what the values name
-pub named-values : (p : Place) (m t : List ℕ) → TakesToken p t
-    → option_map (target_at p (named (codes "t") (values p m t))) (named (codes "m") (values p m t))
+module _ (pattern path text : List ℕ) (fitting : length pattern < 1000) where
+  -- the walk from a place in the pattern and one in the path, behind a text in both
+  abbrev WalksOn : List ℕ → Type 0
+  WalksOn rest =
+      (left w : List ℕ) (token at : ℕ) (names : List (ℕ × ℕ)) → is_tidy rest ≡ true → IsText w
+      → fits rest left ≡ true → length names ≡ parameter_count rest → drop token pattern ≡ w ++ rest
+      → drop at path ≡ w ++ left
+      → walk pattern text path names token at ≡ pairs text names rest left
+
+  on_parameter : (rest : List ℕ) → WalksOn rest → WalksOn (param_token ∷ rest)
+  on_parameter rest more left w token at [] is_tidy is_text fit size pattern_is path_is =
+      absurd (omega (arith, size))
+  on_parameter rest more left w token at (name ∷ names) is_tidy is_text fit size pattern_is path_is =
+      let tidy_parts = and_parts _ _ is_tidy in
+      let fit_parts = and_parts _ _ fit in
+      let front = before_slash left in
+      let behind = from_slash left in
+      let plain = plain_before left fit_parts.0 in
+      let path_parts : drop at path ≡ w ++ (front ++ behind) =
+      path_is ∙ ap (λ p. w ++ p) (sym (both_parts left)) in
+      let ends = ends-both rest behind tidy_parts.0 fit_parts.1 in
+      let long = pattern_size pattern path token at w rest front behind is_text plain pattern_is path_parts ends in
+      let next : after_token (token + length w) ≡ token + length w + 1 = omega (arith, long, fitting) in
+      walk-parameter pattern path token at w rest front behind is_text plain pattern_is path_parts ends text name
+      names
+      ∙ ap (λ vs. (part_of text name.0 name.1, front) ∷ vs)
+      (ap (λ k. walk pattern text path names k (at + length w + length front)) next
+      ∙ more behind [] (token + length w + 1) (at + length w + length front) names tidy_parts.1 tt fit_parts.1
+      (omega (arith, size))
+      (pattern_behind pattern path token at w rest front behind is_text plain pattern_is path_parts ends)
+      (path_behind pattern path token at w rest front behind is_text plain pattern_is path_parts ends))
+
+  on_byte : (rest : List ℕ) → WalksOn rest → (x : ℕ) → (x == param_token) ≡ false → WalksOn (x ∷ rest)
+  on_byte rest more x byte left w token at names is_tidy is_text fit size pattern_is path_is =
+      let tidy_parts = and_parts _ _ (rw byte at is_tidy) in
+      let fit_parts = and_parts _ _ (rw byte at fit) in
+      rw byte
+      (more (drop 1 left) (w ++ x ∷ []) token at names tidy_parts.1
+      (IsText-push w x is_text (literal-byte x tidy_parts.0)) fit_parts.1 (rw byte at size)
+      (pattern_is ∙ sym (append_assoc w (x ∷ []) rest))
+      (path_is ∙ (ap (λ p. w ++ p) (sym (begins-is x left fit_parts.0))
+      ∙ sym (append_assoc w (x ∷ []) (drop 1 left)))))
+
+  walks-on : (rest : List ℕ) → WalksOn rest
+  walks-on [] left w token at [] is_tidy is_text fit size pattern_is path_is = refl
+  walks-on [] left w token at (name ∷ names) is_tidy is_text fit size pattern_is path_is =
+      absurd (omega (arith, size))
+  walks-on (x ∷ rest) left w token at names is_tidy is_text fit size pattern_is path_is =
+      token_cases (λ x. WalksOn (x ∷ rest)) (on_parameter rest (walks-on rest)) (on_byte rest (walks-on rest)) x
+      left w token at names is_tidy is_text fit size pattern_is path_is
+
+-- what a row's parameters take of a target
+abbrev pub taken_by : RouteOf Place → List ℕ → List (List ℕ × List ℕ)
+taken_by row target = walk row.pattern row.text target row.names 0 0
+
+length-map : {X Y : Type 0} (f : X → Y) (xs : List X) → length (map f xs) ≡ length xs
+length-map f [] = refl
+length-map f (x ∷ xs) = omega (arith, length-map f xs)
+
+names-count : (token : Bool) → length (names_by token) ≡ cond token 2 1
+names-count true = refl
+names-count false = refl
+
+pub walk-row : (target : List ℕ) (row : RouteOf Place) → IsRowAt target row
+    → taken_by row target ≡ zip (names_by (names_token row.value)) (taken (pattern_of row.value) target)
+walk-row target row is =
+    let pattern = pattern_of row.value in
+    let size : length row.names ≡ parameter_count pattern =
+    sym (length-map _ row.names) ∙ (ap length is.names ∙ (names-count (names_token row.value)
+    ∙ sym (count row.value))) in
+    ap (λ p. walk p row.text target row.names 0 0) is.pattern
+    ∙ (walks-on pattern target row.text (ltb-true _ _ (short row.value)) pattern target [] 0 0 row.names
+    (tidy row.value) tt is.fitting size refl refl
+    ∙ ap (λ names. zip names (taken pattern target)) is.names)
+
+-- the texts that they take, by what the place names
+pub two_texts : (token : Bool) (texts : List (List ℕ)) → length texts ≡ cond token 2 1
+    → (m : List ℕ) × (t : List ℕ) × (texts ≡ texts_by token m t) × (token ≡ false → t ≡ [])
+two_texts true [] size = absurd (omega (arith, size))
+two_texts true (m ∷ []) size = absurd (omega (arith, size))
+two_texts true (m ∷ t ∷ []) size = (m, t, refl, λ e. absurd (true≢false e))
+two_texts true (m ∷ t ∷ (u ∷ more)) size = absurd (omega (arith, size))
+two_texts false [] size = absurd (omega (arith, size))
+two_texts false (m ∷ []) size = (m, [], refl, λ e. refl)
+two_texts false (m ∷ t ∷ more) size = absurd (omega (arith, size))
+
+named-texts : (p : Place) (token : Bool) (m t : List ℕ) → (token ≡ false → t ≡ [])
+    → option_map (target_at p (named (codes "t") (zip (names_by token) (texts_by token m t))))
+    (named (codes "m") (zip (names_by token) (texts_by token m t)))
     ≡ Some (record { place = p; merchant = m; token = t })
-named-values place.Tokens m t takes = rw takes refl
-named-values place.Token m t takes = refl
-named-values place.Number m t takes = refl
-named-values place.Revoke m t takes = refl
-named-values place.Audit m t takes = rw takes refl
+named-texts p true m t none = refl
+named-texts p false m t none = rw (none refl) refl
+
+-- what a row says of a target
+pub target_by-row : (target : List ℕ) (row : RouteOf Place) (m t : List ℕ) → IsRowAt target row
+    → taken (pattern_of row.value) target ≡ texts_by (names_token row.value) m t
+    → (names_token row.value ≡ false → t ≡ [])
+    → target_by row target ≡ Some (record { place = row.value; merchant = m; token = t })
+target_by-row target row m t is texts none =
+    let token = names_token row.value in
+    let walked : taken_by row target ≡ zip (names_by token) (texts_by token m t) =
+    walk-row target row is ∙ ap (zip (names_by token)) texts in
+    rw walked (named-texts row.value token m t none)
+
+pub texts_at : (target : List ℕ) (row : RouteOf Place) → IsRowAt target row
+    → (m : List ℕ) × (t : List ℕ)
+    × (taken (pattern_of row.value) target ≡ texts_by (names_token row.value) m t)
+    × (names_token row.value ≡ false → t ≡ [])
+texts_at target row is =
+    two_texts (names_token row.value) (taken (pattern_of row.value) target)
+    (taken-count (pattern_of row.value) target ∙ count row.value)

@@ -43,6 +43,10 @@ row_of place.Revoke =
     row (at_token (text (codes "/revoke") ∷ [])) ((codes "POST", action.OnToken on.Revoke) ∷ [])
 row_of place.Audit = row (at_merchant (text (codes "/audit") ∷ [])) ((codes "GET", action.Audit) ∷ [])
 
+-- the places of the service
+abbrev pub places : List Place
+places = place.Tokens ∷ place.Token ∷ place.Number ∷ place.Revoke ∷ place.Audit ∷ []
+
 -- the text of a part, with a merchant's text and a token's for the parameters
 abbrev pub part_text : List ℕ → List ℕ → Part → List ℕ
 part_text m t (text w) = w

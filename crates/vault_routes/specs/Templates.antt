@@ -1,13 +1,12 @@
 -- The templates of the service's targets, as rows of `matchit`'s router.
-use Rattle.std.specs.Prelude.{◌≡◌, [], None, Result, Ok, Err}
+use Rattle.std.specs.Prelude.{◌≡◌, [], None, Result, Ok, Err, fold}
 use Rattle.matchit.specs.Order.{placed}
 use Rattle.matchit.specs.Route.{Scan, parse_route}
 use Rattle.matchit.specs.Router.{RouteOf, nearest, route_from}
 use Rattle.matchit.specs.Rows.{RowsOf}
 use Rattle.matchit.specs.declared.error.InsertError.{InsertError}
-use Rattle.vault_routes.specs.Table.{template_text}
+use Rattle.vault_routes.specs.Table.{places, template_text}
 use Rattle.vault_routes.specs.declared.table.Place.{Place}
-use Rattle.vault_routes.specs.declared.table.Place.TheVariants as place
 
 -- the rows with one more template, where its text reads well
 abbrev pub with_read : RowsOf (RouteOf Place) → Result Scan InsertError → Place → RowsOf (RouteOf Place)
@@ -20,10 +19,7 @@ with_place rows p = with_read rows (parse_route (template_text p)) p
 
 -- the templates of the service
 abbrev pub templates : RowsOf (RouteOf Place)
-templates =
-    with_place
-    (with_place (with_place (with_place (with_place [] place.Tokens) place.Token) place.Number) place.Revoke)
-    place.Audit
+templates = fold with_place [] places
 
 -- the place's template reads well, and conflicts with none of the rows
 abbrev pub HasRoomFor : Place → RowsOf (RouteOf Place) → Type 0

@@ -5,7 +5,7 @@ ghost use Rattle.vault_routes.specs.Route.{NamesItsTarget, route_of, target_of};
 ghost use Rattle.vault_routes.specs.Table.{template_text};
 ghost use Rattle.vault_routes.specs.Templates.{HasRoomFor, templates, with_place};
 
-use crate::table::Place;
+use crate::table::{PLACES, Place};
 use matchit::{InsertError, Router};
 use std::alloc::{AllocError, Global};
 
@@ -47,11 +47,9 @@ impl Routes {
     /// The routes of the service. It fails only for want of memory.
     pub fn new(alloc: Global) -> Result<Routes, AllocError> {
         let mut router = Router::new(alloc);
-        add(&mut router, Place::Tokens)?;
-        add(&mut router, Place::Token)?;
-        add(&mut router, Place::Number)?;
-        add(&mut router, Place::Revoke)?;
-        add(&mut router, Place::Audit)?;
+        for place in &PLACES {
+            add(&mut router, *place)?;
+        }
         Ok(Routes { router })
     }
 

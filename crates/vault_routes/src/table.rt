@@ -34,6 +34,15 @@ pub enum Place {
     Audit,
 }
 
+/// The places of the service.
+pub(crate) const PLACES: [Place; 5] = [
+    Place::Tokens,
+    Place::Token,
+    Place::Number,
+    Place::Revoke,
+    Place::Audit,
+];
+
 impl Place {
     // The template, with `{m}` for a merchant and `{t}` for a token.
     pub(crate) fn template(self) -> &'static str

@@ -1,28 +1,16 @@
-use Rattle.vault_routes.proofs.RoomLemmas.{room_for-audit, room_for-number, room_for-revoke, room_for-token}
-use Rattle.vault_routes.proofs.RoomLemmas.{room_for-tokens}
+use Rattle.std.proofs.Common.{[], sym, ap, ◌∙◌, get_or}
+use Rattle.std.proofs.lemmas.List.Sums.{fold_more}
+use Rattle.vault_routes.specs.Table.{places}
+use Rattle.vault_routes.specs.Templates.{with_place}
+use Rattle.vault_routes.proofs.RoomLemmas.{has_room-at}
 use Rattle.vault_routes.proofs.route.Routes.new.Goals as goal
 
 pub add-requires : goal.add-requires
-add-requires c = rw c.new-router.ensures room_for-tokens
+add-requires c =
+    rw c.loop-place.invariant (has_room-at c.loop-place.place-index _ c.loop-place-test.true)
 
-pub add-requires-2 : goal.add-requires-2
-add-requires-2 c = rw (c.in_ok-add.ensures, c.new-router.ensures) room_for-token
-
-pub add-requires-3 : goal.add-requires-3
-add-requires-3 c = rw (c.in_ok-add-2.ensures, c.in_ok-add.ensures, c.new-router.ensures) room_for-number
-
-pub add-requires-4 : goal.add-requires-4
-add-requires-4 c =
-    rw (c.in_ok-add-3.ensures, c.in_ok-add-2.ensures, c.in_ok-add.ensures, c.new-router.ensures)
-    room_for-revoke
-
-pub add-requires-5 : goal.add-requires-5
-add-requires-5 c =
-    rw (
-      c.in_ok-add-4.ensures,
-      c.in_ok-add-3.ensures,
-      c.in_ok-add-2.ensures,
-      c.in_ok-add.ensures,
-      c.new-router.ensures,
-    )
-    room_for-audit
+pub loop-place-preserved : goal.loop-place-preserved
+loop-place-preserved c =
+    c.in_ok-add.ensures
+    ∙ (ap (λ rows. with_place rows (get_or places c.loop-place.place-index _)) c.loop-place.invariant
+    ∙ sym (fold_more with_place [] places c.loop-place.place-index _ c.loop-place-test.true))
