@@ -1,5 +1,5 @@
 -- A card number goes to nobody but those that it is due to.
-use Rattle.std.specs.Prelude.{◌≡◌, ◌↔◌, ℕ, List, ◌∷◌, ◌++◌, All, Bool, true, Some, None, codes}
+use Rattle.std.specs.Prelude.{◌≡◌, ◌↔◌, ℕ, List, ◌∷◌, ◌++◌, All, Bool, true, Some, None}
 use Rattle.std.specs.List.{Contains}
 use Rattle.vault_core.specs.Keys.{Bytes}
 use Rattle.vault_core.specs.Table.{reply}
@@ -11,12 +11,10 @@ use Rattle.vault_core.specs.declared.reply.Reply.TheVariants.{Number}
 use Rattle.vault_core.specs.declared.right.Right.TheVariants as right
 use Rattle.vault_core.specs.declared.row.Entry.{Entry}
 use Rattle.vault_wire.specs.Answer.{answer_bytes}
-use Rattle.vault_wire.specs.Fields.{sole_value}
 use Rattle.vault_wire.specs.Parts.{Parts, closes}
 use Rattle.vault_wire.specs.declared.fault.WireFault.{WireFault}
 use Rattle.vault_routes.specs.Reply.{body_text}
-use Rattle.vault_routes.specs.Route.{route_of}
-use Rattle.vault_routes.specs.declared.table.Place.TheVariants as place
+use Rattle.vault_routes.specs.Wanted.{AsksForNumber}
 use Rattle.vault_http.specs.Exchanges.{answer_for, fault_text, message_kind}
 use Rattle.vault_engine.specs.Answered.{pairs_of, units_of}
 use Rattle.vault_engine.specs.Asking.{Asked, Asks, reply_to, text_at, vault_after}
@@ -56,13 +54,6 @@ TextsTellNumbers =
     (V : Content) (x : Asked Parts) (number : Bytes) (close : Bool)
     → (text_at answer_for V x ≡ number_text number close)
     ↔ ((reply_to V x.wanted ≡ Number number) × (closes x.unit ≡ close))
-
--- by its target, its method and its one caller field a message asks for the number of a token for a caller
-pub record AsksForNumber (p : Parts) (caller merchant token : Bytes) : Type 0 where
-  pub target : route_of p.target
-      ≡ Some (record { place = place.Number; merchant = merchant; token = token })
-  pub method : p.method ≡ codes "POST"
-  pub caller_field : sole_value (codes "x-vault-caller") p.pairs ≡ Some caller
 
 -- the message asks for the number of a token, and this number is due to the caller that its field names
 pub record IsAskedWhereDue (V : Content) (p : Parts) (now : ℕ) (number : Bytes) : Type 0 where

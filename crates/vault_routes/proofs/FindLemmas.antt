@@ -1,6 +1,7 @@
 -- What a target names.
-use Rattle.std.proofs.Common.{◌≡◌, ℕ, suc, ◌<◌, ◌∙◌, List, [], ◌∷◌, ◌++◌, length, drop, get_or, codes}
-use Rattle.std.proofs.Common.{Bool, true, Option, Some, None, false, refl, sym, ap, arith, subst, lit<, Bor, append-nil}
+use Rattle.std.proofs.Common.{◌≡◌, ℕ, suc, ◌<◌, ◌∙◌, List, [], ◌∷◌, ◌++◌, length, drop, get_or, codes, Bool}
+use Rattle.std.proofs.Common.{true, Option, Some, None, false, refl, sym, ap, arith, subst, lit<, Bor}
+use Rattle.std.proofs.Common.{append-nil}
 use lib.Utf8.{encode}
 use Rattle.std.proofs.Math.Seq.{drop-append_seam, take-append_seam}
 use Rattle.std.proofs.lemmas.Bool.{and_parts, eqb-true, ltb-true}
@@ -17,8 +18,8 @@ use Rattle.matchit.specs.Seek.{first, slash}
 use Rattle.vault_routes.specs.Route.{has_query, parameter, route_of, target_by, text_or_empty}
 use Rattle.vault_routes.specs.Templates.{templates}
 use Rattle.vault_routes.specs.declared.table.Place.{Place}
-use Rattle.vault_routes.proofs.Patterns.{before_slash, begins-is, both_parts, fits, from_slash, from_slash-closed}
-use Rattle.vault_routes.proofs.Patterns.{is_closed, is_tidy, taken, token_cases}
+use Rattle.vault_routes.proofs.Patterns.{before_slash, begins-is, both_parts, fits, from_slash}
+use Rattle.vault_routes.proofs.Patterns.{from_slash-closed, is_closed, is_tidy, taken, token_cases}
 use Rattle.vault_routes.proofs.TemplateLemmas.{names_by, names_token, pattern_of, row-at, tidy}
 use Rattle.vault_routes.proofs.WalkLemmas.{get_or-at, taken_by, walk-row}
 
@@ -108,8 +109,9 @@ pub AllText-found : (target : List ℕ) (row : RouteOf Place) → IsText target 
 AllText-found target row small text given =
     let is = row-at target row small given in
     let pattern = pattern_of row.value in
+    let token = names_token row.value in
     subst AllText (sym (walk-row target row is))
-    (AllText-zip (names_by (names_token row.value)) (taken pattern target) (AllUtf8-names (names_token row.value))
+    (AllText-zip (names_by token) (taken pattern target) (AllUtf8-names token)
     (AllUtf8-taken pattern target (tidy row.value) is.fitting text))
 
 -- what such a row's template says of the target

@@ -9,4 +9,5 @@ pub mod SegmentLemmas
 pub mod Statuses
 pub mod TemplateLemmas
 pub mod WalkLemmas
+pub mod WantedCommands
 pub mod WantedLemmas

@@ -1,7 +1,7 @@
 -- What a target names, in its own bytes.
-use Rattle.std.proofs.Common.{All, ◌≡◌, ℕ, ◌<◌, ◌≤◌, ◌∙◌, ◌⊎◌, List, [], ◌∷◌, ◌++◌, length, get_or, drop, cond}
-use Rattle.std.proofs.Common.{Option, Some, None, Bool, true, false, ◌||◌, ◌==◌, lit<, refl, sym, ap, inl, inr, subst}
-use Rattle.std.proofs.Common.{not, true≢false}
+use Rattle.std.proofs.Common.{All, ◌≡◌, ℕ, ◌<◌, ◌≤◌, ◌∙◌, ◌⊎◌, List, [], ◌∷◌, ◌++◌, length, get_or, drop}
+use Rattle.std.proofs.Common.{cond, Option, Some, None, Bool, true, false, ◌||◌, ◌==◌, lit<, refl, sym, ap}
+use Rattle.std.proofs.Common.{inl, inr, subst, not, true≢false}
 use Rattle.std.proofs.lemmas.Bool.{and_parts, cases_lt, or_parts}
 use Rattle.std.proofs.lemmas.List.{get_or_past}
 use Rattle.std.proofs.lemmas.List.Folds.{list_any-append}
@@ -12,9 +12,9 @@ use Rattle.vault_routes.specs.Route.{IsParameter, IsTargetOf, NamesItsTarget, Ta
 use Rattle.vault_routes.specs.Table.{filled, row_of}
 use Rattle.vault_routes.specs.Templates.{templates}
 use Rattle.vault_routes.proofs.FindLemmas.{IsText-bytes, route_of-found}
-use Rattle.vault_routes.proofs.Patterns.{AllPlain, IsPlain, before_slash, begins-is, both_parts, fill, filled-taken}
-use Rattle.vault_routes.proofs.Patterns.{fits, from_slash, is_literal, is_tidy, taken, taken-plain, takes_back}
-use Rattle.vault_routes.proofs.Patterns.{token_cases}
+use Rattle.vault_routes.proofs.Patterns.{AllPlain, IsPlain, before_slash, begins-is, both_parts, fill}
+use Rattle.vault_routes.proofs.Patterns.{filled-taken, fits, from_slash, is_literal, is_tidy, taken}
+use Rattle.vault_routes.proofs.Patterns.{taken-plain, takes_back, token_cases}
 use Rattle.vault_routes.proofs.TemplateLemmas.{IsRowAt, count, filled-is, first-at, names_token, pattern_of}
 use Rattle.vault_routes.proofs.TemplateLemmas.{row-at, texts_by, tidy}
 use Rattle.vault_routes.proofs.WalkLemmas.{target_by-row, texts_at}
@@ -41,15 +41,17 @@ AllWithout [] = Unit {0}
 AllWithout (text ∷ texts) = Plain text × AllWithout texts
 
 -- a tidy pattern has none, and so has none of its texts where the whole has none
-plain-taken : (pattern path : List ℕ) → fits pattern path ≡ true → Plain path → AllWithout (taken pattern path)
+plain-taken : (pattern path : List ℕ) → fits pattern path ≡ true → Plain path
+    → AllWithout (taken pattern path)
 plain-taken [] path fit plain = tt
 plain-taken (x ∷ pattern) path fit plain =
     token_cases (λ x. fits (x ∷ pattern) path ≡ true → AllWithout (taken (x ∷ pattern) path))
-    (λ fit. (let both = plain-both (before_slash path) (from_slash path) (subst Plain (sym (both_parts path)) plain)
-    in
+    (λ fit. (let both =
+    plain-both (before_slash path) (from_slash path) (subst Plain (sym (both_parts path)) plain) in
     (both.0, plain-taken pattern (from_slash path) (and_parts _ _ fit).1 both.1)))
     (λ x byte fit. (let fit_parts = and_parts _ _ (rw byte at fit) in
-    let rest = (plain-both (x ∷ []) (drop 1 path) (subst Plain (sym (begins-is x path fit_parts.0)) plain)).1 in
+    let same = begins-is x path fit_parts.0 in
+    let rest = (plain-both (x ∷ []) (drop 1 path) (subst Plain (sym same) plain)).1 in
     rw byte (plain-taken pattern (drop 1 path) fit_parts.1 rest))) x fit
 
 literal-plain : (x : ℕ) → is_literal x ≡ true → Plain (x ∷ [])
@@ -59,7 +61,8 @@ literal-plain x e = by (x == 63) (and_parts _ _ e).1
     by true e = absurd (cc)
     by false e = refl
 
-plain-first : (texts : List (List ℕ)) → AllWithout texts → Plain (get_or texts 0 []) × AllWithout (drop 1 texts)
+plain-first : (texts : List (List ℕ)) → AllWithout texts
+    → Plain (get_or texts 0 []) × AllWithout (drop 1 texts)
 plain-first [] are = (refl, tt)
 plain-first (text ∷ texts) are = are
 
@@ -135,8 +138,8 @@ names target w small is =
 names-only : (target : List ℕ) (w : Target) → IsText target → route_of target ≡ Some w → IsTargetOf w target
 names-only target w small e = by (has_query target) refl (first templates target) refl
   where
-    is_of : (row : RouteOf _) → IsRowAt target row → has_query target ≡ false → first templates target ≡ Some row
-        → IsTargetOf w target
+    is_of : (row : RouteOf _) → IsRowAt target row → has_query target ≡ false
+        → first templates target ≡ Some row → IsTargetOf w target
     is_of row is plain given =
         let texts = texts_at target row is in
         let m = texts.0 in

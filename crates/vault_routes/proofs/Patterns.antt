@@ -60,7 +60,8 @@ fits (x ∷ pattern) path =
 abbrev pub taken : List ℕ → List ℕ → List (List ℕ)
 taken [] path = []
 taken (x ∷ pattern) path =
-    cond (x == param_token) (before_slash path ∷ taken pattern (from_slash path)) (taken pattern (drop 1 path))
+    cond (x == param_token) (before_slash path ∷ taken pattern (from_slash path))
+    (taken pattern (drop 1 path))
 
 -- the pattern with texts for its parameters
 abbrev pub fill : List ℕ → List (List ℕ) → List ℕ
@@ -71,7 +72,8 @@ fill (x ∷ pattern) texts =
 -- how many parameters it has
 abbrev pub parameter_count : List ℕ → ℕ
 parameter_count [] = 0
-parameter_count (x ∷ pattern) = cond (x == param_token) (parameter_count pattern + 1) (parameter_count pattern)
+parameter_count (x ∷ pattern) =
+    cond (x == param_token) (parameter_count pattern + 1) (parameter_count pattern)
 
 -- no text fits both patterns
 abbrev pub are_apart : List ℕ → List ℕ → Bool
@@ -150,7 +152,8 @@ filled-taken (x ∷ pattern) path e =
     (λ e. ap (λ rest. before_slash path ++ rest)
     (filled-taken pattern (from_slash path) (and_parts _ _ e).1) ∙ both_parts path)
     (λ x byte e. (let both = and_parts _ _ (rw byte at e) in
-    rw byte (ap (λ rest. x ∷ rest) (filled-taken pattern (drop 1 path) both.1) ∙ begins-is x path both.0))) x e
+    rw byte (ap (λ rest. x ∷ rest) (filled-taken pattern (drop 1 path) both.1)
+    ∙ begins-is x path both.0))) x e
 
 some_length : (text : List ℕ) → has_some text ≡ true → 0 < length text
 some_length [] e = absurd (cc)

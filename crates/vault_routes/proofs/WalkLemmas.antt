@@ -1,7 +1,7 @@
 -- What the parameters of a template take of a target.
-use Rattle.std.proofs.Common.{◌≡◌, ℕ, ◌+◌, ◌-◌, ◌<◌, ◌≤◌, ◌∙◌, List, [], ◌∷◌, ◌++◌, length, drop, get_or, Bool}
-use Rattle.std.proofs.Common.{true, Some, refl, sym, ap, arith, add-zero, ◌⊎◌, inl, inr, append_assoc, ◌==◌, false}
-use Rattle.std.proofs.Common.{codes, cond, true≢false}
+use Rattle.std.proofs.Common.{◌≡◌, ℕ, ◌+◌, ◌-◌, ◌<◌, ◌≤◌, ◌∙◌, List, [], ◌∷◌, ◌++◌, length, drop, get_or}
+use Rattle.std.proofs.Common.{Bool, true, Some, refl, sym, ap, arith, add-zero, ◌⊎◌, inl, inr, append_assoc}
+use Rattle.std.proofs.Common.{◌==◌, false, codes, cond, true≢false}
 use Rattle.std.specs.Prelude.{map, option_map, zip}
 use Rattle.std.proofs.Math.Seq.{drop-append_seam, take-append_seam}
 use Rattle.std.proofs.lemmas.Bool.{and_parts, eqb-true, lt-ltb, le-leb, le-ltb, ltb-true}
@@ -12,9 +12,9 @@ use Rattle.matchit.specs.Router.{RouteOf}
 use Rattle.matchit.specs.Rows.{param_token}
 use Rattle.vault_routes.specs.Route.{target_at, target_by}
 use Rattle.vault_routes.specs.declared.table.Place.{Place}
-use Rattle.vault_routes.proofs.Patterns.{IsPlain, before_slash, begins-is, both_parts, fits}
-use Rattle.vault_routes.proofs.Patterns.{fits-closed, fits-nothing, from_slash, is_closed, is_literal}
-use Rattle.vault_routes.proofs.Patterns.{is_tidy, parameter_count, plain_before, taken, taken-count, token_cases}
+use Rattle.vault_routes.proofs.Patterns.{IsPlain, before_slash, begins-is, both_parts, fits, fits-closed}
+use Rattle.vault_routes.proofs.Patterns.{fits-nothing, from_slash, is_closed, is_literal, is_tidy}
+use Rattle.vault_routes.proofs.Patterns.{parameter_count, plain_before, taken, taken-count, token_cases}
 use Rattle.vault_routes.proofs.SegmentLemmas.{segment-at_slash}
 use Rattle.vault_routes.proofs.TemplateLemmas.{IsRowAt, count, names_by, names_token, pattern_of, short}
 use Rattle.vault_routes.proofs.TemplateLemmas.{texts_by, tidy}
@@ -178,10 +178,11 @@ module _ (pattern path text : List ℕ) (fitting : length pattern < 1000) where
       let path_parts : drop at path ≡ w ++ (front ++ behind) =
       path_is ∙ ap (λ p. w ++ p) (sym (both_parts left)) in
       let ends = ends-both rest behind tidy_parts.0 fit_parts.1 in
-      let long = pattern_size pattern path token at w rest front behind is_text plain pattern_is path_parts ends in
+      let long =
+      pattern_size pattern path token at w rest front behind is_text plain pattern_is path_parts ends in
       let next : after_token (token + length w) ≡ token + length w + 1 = omega (arith, long, fitting) in
-      walk-parameter pattern path token at w rest front behind is_text plain pattern_is path_parts ends text name
-      names
+      walk-parameter pattern path token at w rest front behind is_text plain pattern_is path_parts ends text
+      name names
       ∙ ap (λ vs. (part_of text name.0 name.1, front) ∷ vs)
       (ap (λ k. walk pattern text path names k (at + length w + length front)) next
       ∙ more behind [] (token + length w + 1) (at + length w + length front) names tidy_parts.1 tt fit_parts.1
@@ -205,8 +206,8 @@ module _ (pattern path text : List ℕ) (fitting : length pattern < 1000) where
   walks-on [] left w token at (name ∷ names) is_tidy is_text fit size pattern_is path_is =
       absurd (omega (arith, size))
   walks-on (x ∷ rest) left w token at names is_tidy is_text fit size pattern_is path_is =
-      token_cases (λ x. WalksOn (x ∷ rest)) (on_parameter rest (walks-on rest)) (on_byte rest (walks-on rest)) x
-      left w token at names is_tidy is_text fit size pattern_is path_is
+      token_cases (λ x. WalksOn (x ∷ rest)) (on_parameter rest (walks-on rest))
+      (on_byte rest (walks-on rest)) x left w token at names is_tidy is_text fit size pattern_is path_is
 
 -- what a row's parameters take of a target
 abbrev pub taken_by : RouteOf Place → List ℕ → List (List ℕ × List ℕ)

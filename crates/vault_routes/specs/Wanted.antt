@@ -22,6 +22,7 @@ use Rattle.vault_routes.specs.Route.{Target, route_of}
 use Rattle.vault_routes.specs.Table.{action_at}
 use Rattle.vault_routes.specs.declared.table.Action.{Action}
 use Rattle.vault_routes.specs.declared.table.Action.TheVariants as action
+use Rattle.vault_routes.specs.declared.table.Place.{Place}
 use Rattle.vault_routes.specs.declared.table.TokenAction.{TokenAction}
 use Rattle.vault_routes.specs.declared.table.TokenAction.TheVariants as on
 use Rattle.vault_routes.specs.declared.wanted.Asker.{Asker}
@@ -99,3 +100,11 @@ Wants p now drawn =
 abbrev pub IsWanted : {X : Type 0} → (Wanted X → Type 0) → Wanted X → Type 0
 IsWanted wants (Ok x) = wants (Ok x)
 IsWanted wants (Err e) = e ≢ ServiceMemory → wants (Err e)
+
+-- By its target, its method and its one caller field a message asks for the number of a token for a caller:
+-- the target names the token, and at its place the method asks for the number.
+pub record AsksForNumber (p : Parts) (caller merchant token : Bytes) : Type 0 where
+  pub place : Place
+  pub target : route_of p.target ≡ Some (record { place = place; merchant = merchant; token = token })
+  pub asks : action_at place p.method ≡ Some (action.OnToken on.Detokenize)
+  pub caller_field : sole_value (codes "x-vault-caller") p.pairs ≡ Some caller

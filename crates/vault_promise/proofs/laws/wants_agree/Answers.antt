@@ -1,4 +1,4 @@
-use Rattle.vault_promise.proofs.Wanting.{wants_one}
+use Rattle.vault_routes.proofs.WantedCommands.{wants_one}
 use Rattle.vault_promise.proofs.laws.wants_agree.Goals as goal
 
 pub returns : goal.returns
