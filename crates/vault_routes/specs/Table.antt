@@ -1,4 +1,4 @@
--- The routes of the service: what stands at each place, and what the methods ask for there.
+-- The routes of the service: the places, what stands at each, and what the methods ask for there.
 use Rattle.std.specs.Prelude.{ℕ, List, [], ◌∷◌, ◌++◌, Bool, true, false, codes, Option, option_map, find}
 use Rattle.std.specs.List.{join_by}
 use Rattle.std.specs.Str.{bytes_eq}
@@ -43,7 +43,7 @@ row_of place.Revoke =
     row (at_token (text (codes "/revoke") ∷ [])) ((codes "POST", action.OnToken on.Revoke) ∷ [])
 row_of place.Audit = row (at_merchant (text (codes "/audit") ∷ [])) ((codes "GET", action.Audit) ∷ [])
 
--- the places of the service
+-- the places of the service: each has its template in the router
 abbrev pub places : List Place
 places = place.Tokens ∷ place.Token ∷ place.Number ∷ place.Revoke ∷ place.Audit ∷ []
 
