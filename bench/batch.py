@@ -17,11 +17,11 @@ import tempfile
 import time
 
 sys.dont_write_bytecode = True
-import cards  # noqa: E402, without leaving a folder of its bytecode here
-import figures  # noqa: E402
+import figures  # noqa: E402, without leaving a folder of its bytecode here
 import pipe  # noqa: E402
 import same  # noqa: E402
 import settings  # noqa: E402
+from model import cards  # noqa: E402, which settings lets Python find
 from sides import assert_sound  # noqa: E402
 
 HEADER = ["request", "number", "use"]
@@ -30,7 +30,7 @@ FIRST_LINE = ["request", "answer", "detail"]
 
 def write_rows(path, first, many):
     """Rows that each ask for a single-use token of another card number, by the requests from `first` on."""
-    rows = ((first + place, cards.number_of(place), "single") for place in range(many))
+    rows = ((first + place, cards.number_at(place), "single") for place in range(many))
     with open(path, "w", newline="") as file:
         csv.writer(file, lineterminator="\n").writerows((HEADER, *rows))
 
@@ -45,7 +45,7 @@ def batch(program, vault, asked, answers):
 
 def tokenize(conn, merchant, request, number):
     """One row's statements."""
-    token = cards.token_for(request, number)
+    token = cards.token_at(request, number)
     same.read(conn, request, token)
     same.write(conn, request, token, merchant, number)
     return request, token, merchant.moment + merchant.life

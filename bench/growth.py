@@ -14,11 +14,11 @@ import sys
 import tempfile
 
 sys.dont_write_bytecode = True
-import cards  # noqa: E402, without leaving a folder of its bytecode here
-import figures  # noqa: E402
+import figures  # noqa: E402, without leaving a folder of its bytecode here
 import filled  # noqa: E402
 import same  # noqa: E402
 import settings  # noqa: E402
+from model import cards  # noqa: E402, which settings lets Python find
 from sides import timed, timed_check, timed_python_check  # noqa: E402
 
 MOST = 1000000
@@ -40,12 +40,12 @@ COLUMNS = (
 
 def token_at(place):
     """The token at a place, of another card each; and its use, multi-use at every other place."""
-    return cards.token_for(place, cards.number_of(place)), 1 + place % 2
+    return cards.token_at(place, cards.number_at(place)), 1 + place % 2
 
 
 def card_rows(many):
     for place in range(1, many + 1):
-        yield place, same.MERCHANT, cards.number_of(place), 1
+        yield place, same.MERCHANT, cards.number_at(place), 1
 
 
 def entry_rows(many):

@@ -18,10 +18,10 @@ import tempfile
 import time
 
 sys.dont_write_bytecode = True
-import cards  # noqa: E402, without leaving a folder of its bytecode here
-import figures  # noqa: E402
+import figures  # noqa: E402, without leaving a folder of its bytecode here
 import pipe  # noqa: E402
 import settings  # noqa: E402
+from model import cards  # noqa: E402, which settings lets Python find
 from sides import told  # noqa: E402
 
 # a service has the system clock, so the tokens that stand before it have to be of today
@@ -38,7 +38,7 @@ TOTAL = re.compile(r"^(?:summary|totals): (\d+)", re.MULTILINE)
 
 def messages(many, use, request, card):
     """So many messages, whose requests and cards go on from these."""
-    asked = (pipe.message(request + at, cards.number_of(card + at), use) for at in range(many))
+    asked = (pipe.message(request + at, cards.number_at(card + at), use) for at in range(many))
     return [one.encode() for one in asked]
 
 
@@ -85,7 +85,7 @@ class Counter:
         moment = ("--now", NOW)
         told(program, "merchant", *moment, self.file, "shop1", YEAR, YEAR)
         told(program, "grant", *moment, self.file, "till-1", "shop1", "tokenize")
-        rows = (f"{at},{cards.number_of(at)},single\n" for at in range(1, before + 1))
+        rows = (f"{at},{cards.number_at(at)},single\n" for at in range(1, before + 1))
         self.run(("batch", *moment, self.file, "till-1", "shop1"), (HEADER + "".join(rows)).encode())
         self.repeats = Repeats(program)
 

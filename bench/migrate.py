@@ -24,11 +24,11 @@ import tempfile
 import time
 
 sys.dont_write_bytecode = True
-import cards  # noqa: E402, without leaving a folder of its bytecode here
-import figures  # noqa: E402
+import figures  # noqa: E402, without leaving a folder of its bytecode here
 import same  # noqa: E402
 import settings  # noqa: E402
-from shared import schemas  # noqa: E402, which settings lets Python find
+from model import cards  # noqa: E402, which settings lets Python find
+from shared import schemas  # noqa: E402
 from sides import assert_sound, timed, told  # noqa: E402
 
 MIB = 1048576
@@ -78,8 +78,8 @@ def make_file(path, many):
     conn.execute("BEGIN")
     conn.execute("INSERT INTO counts VALUES ('shop1', 1, ?1)", (many,))
     for place in range(1, many + 1):
-        number = cards.number_of(place)
-        token, usage = cards.token_for(place, number), 1 + place % 2
+        number = cards.number_at(place)
+        token, usage = cards.token_at(place, number), 1 + place % 2
         entry, record = (token, number, usage), (place, token, usage)
         conn.execute("INSERT INTO entries VALUES ('shop1', ?1, ?2, ?3, 1000, 1060, NULL)", entry)
         conn.execute("INSERT INTO records VALUES ('till-1', ?1, 'shop1', ?2, ?3)", record)

@@ -4,12 +4,13 @@ output. What run.py and batch.py have of it.
 
 import subprocess
 
-import cards
+import settings  # noqa: F401
+from model import cards  # which settings lets Python find
 
 
 def message(request, number=None, use="single"):
     """A message that asks for a token with this request number: of its own card, where none is named."""
-    body = f'{{"number":"{number or cards.number_of(request)}","use":"{use}"}}'
+    body = f'{{"number":"{number or cards.number_at(request)}","use":"{use}"}}'
     return (
         "POST /v1/merchants/shop1/tokens HTTP/1.1\r\nHost: vault\r\nX-Vault-Caller: till-1\r\n"
         f"X-Vault-Request: {request}\r\nContent-Length: {len(body)}\r\n\r\n{body}"

@@ -15,7 +15,8 @@ import sys
 import time
 
 sys.dont_write_bytecode = True
-import cards  # noqa: E402, without leaving a folder of its bytecode here
+import settings  # noqa: E402, F401, without leaving a folder of its bytecode here
+from model import cards  # noqa: E402, which settings lets Python find
 
 LIVES = "SELECT single_life, multi_life, moment, lead_digits FROM merchants3 WHERE name = ?1"
 COUNTS = "SELECT kind, total FROM counts WHERE merchant = ?1"
@@ -113,8 +114,8 @@ def write(conn, request, token, merchant, number):
 def tokenize_many(conn, merchant, many):
     first = merchant.made + 1
     for request in range(first, first + many):
-        number = cards.number_of(request)
-        token = cards.token_for(request, number)
+        number = cards.number_at(request)
+        token = cards.token_at(request, number)
         read(conn, request, token)
         write(conn, request, token, merchant, number)
 

@@ -10,8 +10,8 @@ import sys
 import tempfile
 import time
 
-import cards
 import pipe
+from model import cards  # which pipe lets Python find
 
 HERE = pathlib.Path(__file__).resolve().parent
 MOST_MESSAGES = 1000
@@ -104,7 +104,7 @@ class Sides:
     def fill(self, path, entries):
         """Makes a file with so many entries by the vault itself: one by a message, the others by a batch."""
         pipe.made_vault(self.vault, path)
-        rows = "".join(f"{place},{cards.number_of(place)},single\n" for place in range(2, entries + 1))
+        rows = "".join(f"{place},{cards.number_at(place)},single\n" for place in range(2, entries + 1))
         words = [self.vault, "batch", path, "till-1", "shop1"]
         given = f"request,number,use\n{rows}".encode()
         subprocess.run(words, input=given, stdout=subprocess.DEVNULL, check=True)

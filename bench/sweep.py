@@ -14,11 +14,11 @@ import tempfile
 import time
 
 sys.dont_write_bytecode = True
-import cards  # noqa: E402, without leaving a folder of its bytecode here
-import figures  # noqa: E402
+import figures  # noqa: E402, without leaving a folder of its bytecode here
 import filled  # noqa: E402
 import same  # noqa: E402
 import settings  # noqa: E402
+from model import cards  # noqa: E402, which settings lets Python find
 from sides import assert_sound, told  # noqa: E402
 
 FIND_DEAD = (
@@ -45,7 +45,7 @@ def rows_of(dead, live):
     """The rows of a merchant's entries, so many live ones behind each dead one, all of the card with the
     id 1, and of their records."""
     for number in range(dead * (1 + live)):
-        token = cards.token_for(number + 1, same.NUMBER)
+        token = cards.token_at(number + 1, same.NUMBER)
         birth = BORN_LIVE if number % (1 + live) else BORN_DEAD
         entry = (same.MERCHANT, token, 1, 1, birth, birth + LIFE, None)
         yield entry, (same.CALLER, number + 1, same.MERCHANT, token, 1)

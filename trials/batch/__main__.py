@@ -9,7 +9,7 @@ import time
 from front import certificates
 from front.services import Vault
 from haproxy.services import Front
-from shared.cards import completed
+from model.cards import completed
 from shared.masked import MaskedTally
 from shared.tally import unlike
 

@@ -4,10 +4,11 @@ from cuts.asked import over, started
 from kills import jobs as killed
 from kills.asked import Run
 from kills.shop import clock
+from model.rules import DONE
+from model.vault import RIGHTS, Command
 from shared import rows
 from shared.commands import row
 from shared.files import removed
-from shared.rules import DONE, RIGHTS, Command
 from shared.runs import run as run_whole
 
 LATER = 90_000

@@ -10,8 +10,9 @@ from followed.lists import END, MERCHANTS, RIGHTS, renamed
 from followed.service import Followed
 from kills.jobs import toml
 from kills.shop import clock
-from shared import rules
-from shared.rules import DONE, Command
+from model import vault
+from model.rules import DONE
+from model.vault import Command
 from shared.runs import run, until
 from shared.service import Service
 
@@ -50,7 +51,7 @@ def turn_lists(story, disk, service, lock, held, turn):
 
 def followed(story, disk, path, many, _):
     """Both lists of a service change while a client asks."""
-    names = {number: name for name, number in rules.RIGHTS.items()}
+    names = {number: name for name, number in vault.RIGHTS.items()}
     held = [Command("grant", *key[1:3], given=names[key[3]]) for key in story.shop.keys("right")]
     renamed(MERCHANTS, merchant_list([]) + END)
     renamed(RIGHTS, toml(held) + END)

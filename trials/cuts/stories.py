@@ -4,7 +4,7 @@ import itertools
 from typing import NamedTuple
 
 from kills.shop import Shop
-from shared.known import Known
+from model.known import Known
 
 
 class Step(NamedTuple):

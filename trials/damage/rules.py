@@ -2,20 +2,13 @@
 
 import re
 
+from model.cards import passes
+
 NAME = re.compile(rb"[a-z0-9-]{1,16}")
 DIGITS = re.compile(rb"[0-9]{10,19}")
 LONGEST = 3155760000
 LAST = 253402300799
 MOST = 4611686018427387903
-
-
-def passes_check(digits):
-    """Whether the digits pass the card check."""
-    total = 0
-    for place, digit in enumerate(reversed(digits)):
-        worth = (digit - 48) * (1 + place % 2)
-        total += worth - 9 if worth > 9 else worth
-    return total % 10 == 0
 
 
 def is_name(text):
@@ -25,12 +18,12 @@ def is_name(text):
 
 def is_card(text):
     """Whether a text is a card number."""
-    return bool(DIGITS.fullmatch(text)) and passes_check(text)
+    return bool(DIGITS.fullmatch(text)) and passes(text.decode())
 
 
 def is_token(text):
     """Whether a text is a token."""
-    return bool(DIGITS.fullmatch(text)) and not passes_check(text)
+    return bool(DIGITS.fullmatch(text)) and not passes(text.decode())
 
 
 class Rules:

@@ -2,11 +2,12 @@
 
 import random
 
+from model.cards import fits, passes
+from model.known import Known
+from model.vault import Command, Entry, Record
 from shared import rows, shop
 from shared.commands import row
 from shared.files import copied, log_of
-from shared.known import Known
-from shared.rules import Command, Entry, Record, fits, passes
 from shared.runs import must
 
 NOW = 1_700_000_000

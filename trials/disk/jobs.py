@@ -6,9 +6,9 @@ import subprocess
 from typing import NamedTuple
 
 from disk.grounds import HEADER, NOW, Ground
-from shared.cards import completed
+from model.cards import completed
+from model.vault import RIGHTS, Command
 from shared.commands import line_answer, message, row, whole_answers
-from shared.rules import RIGHTS, Command
 from shared.runs import SECONDS, Ran, run
 
 LONG = "batch with a long log"

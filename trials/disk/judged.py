@@ -4,10 +4,10 @@ import sqlite3
 import time
 
 from disk.jobs import read_answers, run_job
+from model.cards import hidden
+from model.known import Known
+from model.rules import DONE
 from shared import rows
-from shared.cards import hidden
-from shared.known import Known
-from shared.rules import DONE
 from shared.runs import run
 
 NOT_OPENED = ("file not opened 33", "file not opened 34")

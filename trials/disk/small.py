@@ -7,11 +7,12 @@ import sys
 import time
 
 from disk.grounds import HEADER
+from model.cards import completed, hidden
+from model.known import Known
+from model.rules import DONE
+from model.vault import Command
 from shared import messages, rows
-from shared.cards import completed, hidden
 from shared.commands import line_answer, message, reply, row, whole_answers
-from shared.known import Known
-from shared.rules import DONE, Command
 from shared.runs import run
 from shared.tally import Tally
 

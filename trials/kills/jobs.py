@@ -3,8 +3,9 @@
 from kills.asked import Run
 from kills.shop import clock
 from kills.stopped import Stopped
+from model.rules import DONE
+from model.vault import RIGHTS, Command
 from shared.commands import line_answer, row
-from shared.rules import DONE, RIGHTS, Command
 from shared.runs import run as run_whole
 
 HEADER, FIRST_LINE = "request,number,use\n", b"request,answer,detail"

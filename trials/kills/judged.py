@@ -4,10 +4,10 @@ import sqlite3
 
 from kills import files
 from kills.shop import clock
+from model.cards import hidden
+from model.vault import Command
 from shared import messages, rows
-from shared.cards import hidden
 from shared.commands import message, reply
-from shared.rules import Command
 from shared.runs import run as run_whole
 
 SAMPLE = 40

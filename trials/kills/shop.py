@@ -4,9 +4,11 @@ import itertools
 import json
 import time
 
-from shared import cards, rows
-from shared.known import Known
-from shared.rules import DONE, MULTI, RIGHTS, SINGLE, Command, state
+from model import cards
+from model.known import Known
+from model.rules import DONE, state
+from model.vault import MULTI, RIGHTS, SINGLE, Command
+from shared import rows
 from shared.runs import must
 from shared.shop import made
 

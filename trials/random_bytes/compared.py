@@ -81,7 +81,7 @@ def piped(stream, name, cut):
     checked = run(ground.program, "check", file) if name == "in one piece" else Ran(0, b"", b"")
     removed(file)
     fault = fault_of(ran, stream.due)
-    sizes = tuple(map(len, (stream.after.merchants, stream.after.entries, stream.after.records)))
+    sizes = tuple(map(stream.after.count, ("merchant", "entry", "record")))
     if not fault and checked.out and checked.out != b"sound %d %d %d\n" % sizes:
         fault = f"the file after it: {checked}, and {sizes} is due"
     return ran, fault

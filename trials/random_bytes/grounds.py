@@ -1,10 +1,11 @@
-"""The vault over which streams are answered: made by the program in a file, and by the reader in memory, by
+"""The vault over which streams are answered: made by the program in a file, and by the model in memory, by
 the same commands."""
 
-import copy
 import random
 
-from reader import answers, vault
+from model.vault import RIGHTS as NUMBERS
+from model.vault import Merchant, Rows
+from reader import answers
 from shared import messages, shop
 from shared.files import copied
 from shared.runs import must
@@ -28,7 +29,7 @@ RIGHTS = (
     ("till-1", "shop3", "tokenize", None),
     ("till-2", "shop1", "tokenize", NOW),
     ("till-2", "shop1", "view", NOW + 1),
-    *(("back", shop, right, None) for shop in ("shop1", "shop2") for right in vault.RIGHTS[1:]),
+    *(("back", shop, right, None) for shop in ("shop1", "shop2") for right in list(NUMBERS)[1:]),
     ("back", "shop3", "view", None),
 )
 # Tokens by their requests: merchant, number, use, and what is done with the token then.
@@ -44,14 +45,14 @@ TOKENS = (
 
 
 class Ground:
-    """The file, the same vault in the reader, and the digits that each message of a pipe draws."""
+    """The file, the same vault in the model, and the digits that each message of a pipe draws."""
 
     def __init__(self, program, folder, seed):
         self.program = program
         self.folder = folder
         self.file = folder / "ground.db"
         self.digits = "".join(random.Random(seed).choices("0123456789", k=300))
-        self.vault = vault.Vault()
+        self.rows = Rows()
         self.tokens = []
         self.set_merchants()
         self.make_tokens()
@@ -59,10 +60,10 @@ class Ground:
     def set_merchants(self):
         for name, single, multi, lead, moment in MERCHANTS:
             shop.made(self.program, self.file, single, multi, {}, name, moment, lead)
-            self.vault.merchants[name] = vault.Merchant({"single": single, "multi": multi}, lead, moment)
+            self.rows.put({("merchant", name): Merchant(single, multi, lead, moment)})
         for caller, name, right, end in RIGHTS:
             shop.granted(self.program, self.file, {caller: (right,)}, name, EARLY, end)
-            self.vault.rights[caller, name, right] = end
+            self.rows.put({("right", caller, name, NUMBERS[right]): (end,)})
 
     def make_tokens(self):
         for request, merchant, number, use, then in TOKENS:
@@ -79,7 +80,7 @@ class Ground:
         """The program's answer to one message, which has to be the reader's, and a success."""
         words = ("pipe", "--now", now, "--digits", self.digits, self.file)
         came = messages.answers_in(must(self.program, *words, given=message).out)[0]
-        due = answers.dialogue(self.vault, message, now, answers.drawn(self.digits)).answers[0]
+        due = answers.dialogue(self.rows, message, now, answers.drawn(self.digits)).answers[0]
         if (came.status, came.body) != (200, due.body):
             raise SystemExit(f"the vault of the trial: {came.status}, {due}\n0 passed, 1 failed")
         return came
@@ -89,6 +90,6 @@ class Ground:
         return copied(self.file, self.folder / name)
 
     def expected(self, text, now=NOW, draw=None):
-        """What the reader says to the bytes of a stream, and its vault after them."""
-        after = copy.deepcopy(self.vault)
+        """What the reader says to the bytes of a stream, and the rows after them."""
+        after = Rows(self.rows.rows)
         return answers.dialogue(after, text, now, draw or answers.drawn(self.digits)), after

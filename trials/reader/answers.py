@@ -1,26 +1,12 @@
 """What a connection is answered: for each message its answer, and for the fault behind them one more."""
 
+import itertools
 import json
 from typing import NamedTuple
 
+from model.refusals import refused
+from model.rules import NO_TOKEN, outcome
 from reader import connection, fields, requests
-from reader.vault import Refused
-
-STATUSES = {
-    400: (1, 2, 3, 4, 5, 19, 50, 52, 58, 59),
-    403: (8,),
-    404: (7, 13, 56),
-    405: (57,),
-    409: (10, 17),
-    410: (14, 15, 16),
-    411: (53,),
-    413: (54,),
-    422: (9,),
-    431: (51,),
-    503: (12,),
-    507: (11,),
-}
-STATUS = {number: status for status, numbers in STATUSES.items() for number in numbers}
 
 
 class Due(NamedTuple):
@@ -39,29 +25,32 @@ class Dialogue(NamedTuple):
     last: list
 
 
-def refusal(number, closes, allow=None):
-    """The answer that says a refusal."""
-    return Due(STATUS[number], b'{"refused":%d}' % number, allow, closes)
+def due(reply, closes, allow=None):
+    """The answer that says a reply: a status and what the body has."""
+    status, body = reply
+    return Due(status, json.dumps(body, sort_keys=True, separators=(",", ":")).encode(), allow, closes)
 
 
-def answer(vault, message, now, draw):
-    """The answer to one message."""
+def answer(rows, message, now, draw):
+    """The answer to one message, whose changes are made. `draw` answers the candidates for a token of a
+    number."""
     closes = fields.closes(message.head)
     try:
-        found = requests.reply(vault, message, now, draw)
-    except requests.BadMethod as refused:
-        return refusal(57, closes, refused.args[1])
-    except Refused as refused:
-        return refusal(refused.number, closes)
-    text = json.dumps(found, sort_keys=True, separators=(",", ":"))
-    return Due(200, text.encode(), None, closes)
+        command = requests.command_of(message)
+    except requests.BadMethod as fault:
+        return due(refused(57), closes, fault.args[1])
+    except requests.Refused as fault:
+        return due(refused(fault.number), closes)
+    reply, changes = outcome(rows, command, now, draw(command.number))
+    rows.put(changes)
+    return due(refused(12) if reply == NO_TOKEN else reply, closes)
 
 
-def dialogue(vault, text, now, draw):
-    """What is answered to the bytes of a connection; the vault is changed by its messages."""
+def dialogue(rows, text, now, draw):
+    """What is answered to the bytes of a connection; the rows are changed by its messages."""
     reading = connection.read(text)
-    found = [answer(vault, message, now, draw) for message in reading.messages]
-    last = [fault and refusal(fault, True) for fault in sorted(reading.faults, key=str)]
+    found = [answer(rows, message, now, draw) for message in reading.messages]
+    last = [fault and due(refused(fault), True) for fault in sorted(reading.faults, key=str)]
     return Dialogue(found, last)
 
 
@@ -77,12 +66,11 @@ def drawn(digits):
 
 
 def hidden():
-    """Candidates for where nobody knows what is drawn: a text that no other token is."""
-    many = 0
+    """Candidates for where nobody knows what is drawn: one after the other, and none that a message names."""
+    places = itertools.count(1)
 
     def draw(number):
-        nonlocal many
-        many += 1
-        yield f"{many:?>{len(number) - 4}}{number[-4:]}"
+        for place in places:
+            yield f"{place:0{len(number) - 4}}{number[-4:]}"
 
     return draw

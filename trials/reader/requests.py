@@ -1,16 +1,17 @@
-"""What a message asks for, or the number of the first refusal that applies."""
+"""The command that a message asks for, or the number of the first refusal that applies."""
 
 import json
 import re
 
+from model.cards import passes
+from model.vault import MULTI, SINGLE, Command
 from reader import fields
-from reader.vault import Asking, Refused, passes_check
 
 PART = r"([^/?]+)"
 ROUTES = (
     (re.compile(f"/v1/merchants/{PART}/tokens".encode()), {b"POST": "tokenize"}),
     (re.compile(f"/v1/merchants/{PART}/tokens/{PART}".encode()), {b"GET": "view", b"DELETE": "purge"}),
-    (re.compile(f"/v1/merchants/{PART}/tokens/{PART}/number".encode()), {b"POST": "number"}),
+    (re.compile(f"/v1/merchants/{PART}/tokens/{PART}/number".encode()), {b"POST": "detokenize"}),
     (re.compile(f"/v1/merchants/{PART}/tokens/{PART}/revoke".encode()), {b"POST": "revoke"}),
     (re.compile(f"/v1/merchants/{PART}/audit".encode()), {b"GET": "audit"}),
 )
@@ -18,6 +19,15 @@ NAME = re.compile(rb"[a-z0-9-]{1,16}")
 TOKEN = re.compile(rb"[0-9]{10,19}")
 REQUEST = re.compile(rb"[1-9][0-9]{0,18}")
 NUMBER = re.compile(r"[0-9](?:[ -]?[0-9]){9,18}")
+USES = {"single": SINGLE, "multi": MULTI}
+
+
+class Refused(Exception):
+    """A refusal, by its number."""
+
+    @property
+    def number(self):
+        return self.args[0]
 
 
 class BadMethod(Refused):
@@ -83,24 +93,23 @@ def order(head, body):
     if not NUMBER.fullmatch(number):
         raise Refused(1)
     digits = re.sub("[ -]", "", number)
-    if not passes_check(digits):
+    if not passes(digits):
         raise Refused(2)
-    if use not in ("single", "multi"):
+    if use not in USES:
         raise Refused(19)
-    return request, digits, use
+    return request, digits, USES[use]
 
 
-def reply(vault, message, now, draw):
-    """What a message is answered."""
+def command_of(message):
+    """The command that a message asks for."""
     asked, merchant, *rest = route(message.head)
     caller = needed(sole(message.head, b"x-vault-caller"), NAME, 4)
     merchant = needed(merchant, NAME, 4)
-    asking = Asking(vault, caller, merchant, now)
     if asked == "tokenize":
-        return asking.tokenize(*order(message.head, message.body), draw)
+        return Command(asked, caller, merchant, "", *order(message.head, message.body))
     if asked == "audit":
-        return asking.audit()
+        return Command(asked, caller, merchant)
     token = needed(rest[0], TOKEN, 3)
-    if passes_check(token):
+    if passes(token):
         raise Refused(3)
-    return getattr(asking, asked)(token)
+    return Command(asked, caller, merchant, token)

@@ -5,13 +5,13 @@ import sqlite3
 from pathlib import Path
 from typing import NamedTuple
 
+from model.vault import RIGHTS
 from runs import connections
 from runs.cases import ASKED
 from runs.connections import ANSWERED, BAD, CLOSES, LARGE, SHOWN, TARGET, WHOLE
 from runs.connections import answer, asked, refusal, token_asked
 from shared import messages, shop
 from shared.files import copied
-from shared.rules import RIGHTS
 from shared.runs import must, run
 
 # The worked token, the places about it, and the counts of its merchant.

@@ -4,11 +4,11 @@ digits."""
 import itertools
 from pathlib import Path
 
+from model.vault import RIGHTS
 from runs import cases
 from runs.cases import ASKED, TOKEN, in_bytes
 from shared import messages, shop
 from shared.files import copied
-from shared.rules import RIGHTS
 from shared.runs import run
 from shared.tally import unlike
 

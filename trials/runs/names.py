@@ -1,9 +1,9 @@
 """Names, request numbers, moments, and the words of uses and rights."""
 
+from model.vault import RIGHTS
 from runs import scripts
 from runs.cases import begun, fault_of
 from shared import rows
-from shared.rules import RIGHTS
 from shared.tally import unlike
 
 # Names of callers and of merchants, and texts that are none.

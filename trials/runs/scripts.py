@@ -16,11 +16,11 @@ import json
 import sqlite3
 from pathlib import Path
 
+from model.vault import RIGHTS
 from runs import paths
 from shared import messages, rows, shop
 from shared.commands import TARGETS
 from shared.files import copied
-from shared.rules import RIGHTS
 from shared.runs import run, side_by_side
 from shared.tally import unlike
 

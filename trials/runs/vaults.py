@@ -1,7 +1,7 @@
 """Lists of commands over a file, with tokens and moments worked out by hand."""
 
+from model.cards import completed
 from runs import scripts
-from shared.cards import completed
 
 OPENED = "open till-1 shop1 60 0 1000 = done"
 FIRST = "tokenize till-1 shop1 7 single 4111111111111111 0 1000 = 0000000000001111 1060"

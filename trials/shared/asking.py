@@ -9,7 +9,7 @@ import sys
 import threading
 import time
 
-from shared.cards import completed
+from model.cards import completed
 from shared.messages import NoAnswer, first_answer, order, token_asked
 
 # how long one request is asked again, and after which pause

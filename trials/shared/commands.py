@@ -2,8 +2,9 @@
 
 import json
 
+from model.refusals import refused
+from model.vault import USES
 from shared import messages
-from shared.rules import USES, refused
 
 TARGETS = {
     "detokenize": ("POST", "/tokens/{token}/number"),

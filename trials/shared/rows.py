@@ -5,8 +5,8 @@ import pathlib
 import sqlite3
 import tempfile
 
+from model.vault import Entry, Merchant, Record
 from shared.files import copied
-from shared.rules import Entry, Merchant, Record
 from shared.schemas import tables
 
 MADE, GIVEN, DENIED = 1, 2, 3

@@ -1,6 +1,6 @@
 """Shops in a vault's file: a merchant with its lives, and who may do what there."""
 
-from shared.rules import RIGHTS
+from model.vault import RIGHTS
 from shared.runs import must
 
 # Who asks for tokens, and who does all else.

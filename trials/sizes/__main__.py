@@ -5,10 +5,11 @@ import sys
 import time
 from pathlib import Path
 
+from model.cards import number_at
 from shared.runs import must
 from shared.service import Service
 from shared.tally import Tally
-from sizes.shop import NOW, made, number_at
+from sizes.shop import NOW, made
 
 FILE = "shop.db"
 MANY, DEAD, ROWS = 120_000, 10_000, 4000

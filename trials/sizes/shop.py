@@ -1,22 +1,11 @@
 """A shop with many tokens, each of another card number and with the record of its request."""
 
+from model.cards import number_at, token_at
+from model.vault import MULTI, RIGHTS, SINGLE, Entry, Merchant, Record
 from shared import rows
-from shared.cards import completed
-from shared.rules import MULTI, RIGHTS, SINGLE, Entry, Merchant, Record, passes
 
 NOW = 1000
 LIFE = 60
-
-
-def number_at(place):
-    """The card number of a place; they come in no order."""
-    return completed(f"411111{place * 618033989 % 10**9:09}")
-
-
-def token_at(place, number):
-    """The token of a place, in no order too."""
-    front = f"{place:011}"[::-1]
-    return next(text for text in (f"{front}{digit}{number[-4:]}" for digit in "01") if not passes(text))
 
 
 def shop_rows(many, dead):

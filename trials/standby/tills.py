@@ -10,7 +10,7 @@ import threading
 import time
 
 from front.clients import Client
-from shared.cards import completed
+from model.cards import completed
 from standby.nodes import FRONT, TILLS
 
 PORT = 8443

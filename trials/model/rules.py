@@ -1,82 +1,12 @@
-"""The rules of the vault in short, of what a command is answered and what it changes. They are written from
-the words of the definitions in specs/, and share nothing with the program. A vault is a table of rows by their keys:
+"""The rules of the vault in short: what a command is answered at a moment, and what it changes."""
 
-("merchant", name): Merchant                ("entry", merchant, token): Entry
-("record", caller, request): Record         ("right", caller, merchant, right): its end in a tuple, or None
-"""
+from model.cards import fits, mask
+from model.refusals import refused
+from model.vault import MULTI, RIGHTS, SINGLE, USES, Entry, Merchant, Record
 
-from typing import NamedTuple
-
-SINGLE, MULTI = 1, 2
-USES = {SINGLE: "single", MULTI: "multi"}
-RIGHTS = {"tokenize": 1, "detokenize": 2, "view": 3, "revoke": 4, "purge": 5, "audit": 6}
-STATUSES = {7: 404, 8: 403, 9: 422, 10: 409, 11: 507, 12: 503, 13: 404, 14: 410, 15: 410, 16: 410, 17: 409}
-
-
-class Merchant(NamedTuple):
-    """A merchant: its lives, its lead, its moment, and how many numbers were given and denied."""
-
-    single: int
-    multi: int
-    lead: int
-    moment: int
-    given: int = 0
-    denied: int = 0
-
-
-class Entry(NamedTuple):
-    """A token's entry; `number` is None where it is purged, `revoked` where it never was."""
-
-    number: str | None
-    use: int
-    birth: int
-    expires: int
-    revoked: int | None = None
-
-
-class Record(NamedTuple):
-    """A request's record."""
-
-    merchant: str
-    token: str
-    use: int
-
-
-class Command(NamedTuple):
-    """A command; `right` names what it does, or is `merchant`, `grant` or `withdraw`."""
-
-    right: str
-    caller: str
-    merchant: str
-    token: str = ""
-    request: int = 0
-    number: str = ""
-    use: int = SINGLE
-    given: str = ""
-    ends: int | None = None
-    lives: tuple = ()
-
-
-def passes(digits):
-    """Whether digits pass the card check."""
-    total = 0
-    for place, digit in enumerate(reversed(digits)):
-        value = int(digit) * (1 + place % 2)
-        total += value - 9 if value > 9 else value
-    return total % 10 == 0
-
-
-def fits(token, number):
-    """Whether a text may be a token of the number."""
-    alike = len(token) == len(number) and token[-4:] == number[-4:]
-    return alike and token.isascii() and token.isdigit() and not passes(token)
-
-
-def mask(number, lead):
-    """A number as a View shows it."""
-    most = len(number) - (10 if lead == 6 else 8)
-    shown = max(0, min(lead, most))
-    return number[:shown] + "*" * (len(number) - shown - 4) + number[-4:]
+DONE = (200, {"done": True})
+# What a trial is told where a token has to be drawn, and no candidate will do.
+NO_TOKEN = (0, {"no token that may be drawn": True})
 
 
 def state(entry, now):
@@ -86,14 +16,6 @@ def state(entry, now):
     if entry.revoked is not None:
         return "revoked"
     return "live" if now < entry.expires else "expired"
-
-
-def refused(number):
-    """The answer of a refusal."""
-    return STATUSES[number], {"refused": number}
-
-
-DONE = (200, {"done": True})
 
 
 def entitled(rows, command, now):
@@ -127,8 +49,16 @@ def repeated(rows, command, record):
     return (token_answer(record.token, entry) if alike else refused(10)), {}
 
 
-def tokenize(rows, command, merchant, now, drawn):
-    """What a new request is answered; `drawn` is the new token, where there is one."""
+def new_token(rows, command, candidates):
+    """The first candidate that fits the number and is new to the merchant, or None."""
+    for token in candidates:
+        if fits(token, command.number) and rows.get(("entry", command.merchant, token)) is None:
+            return token
+    return None
+
+
+def tokenize(rows, command, merchant, now, candidates):
+    """What a new request is answered; a new token is one of the candidates."""
     life = merchant.single if command.use == SINGLE else merchant.multi
     if not entitled(rows, command, now):
         return refused(8), {}
@@ -137,8 +67,9 @@ def tokenize(rows, command, merchant, now, drawn):
     held = current(rows, command, now) if command.use == MULTI else None
     changes = {("merchant", command.merchant): merchant._replace(moment=now)}
     if held is None:
-        if not fits(drawn or "", command.number) or rows.get(("entry", command.merchant, drawn)):
-            return (0, {"no token that may be drawn": True}), {}
+        drawn = new_token(rows, command, candidates)
+        if drawn is None:
+            return NO_TOKEN, {}
         held = drawn, Entry(command.number, command.use, now, now + life)
         changes["entry", command.merchant, drawn] = held[1]
     token, entry = held
@@ -194,7 +125,7 @@ def on_merchant(rows, command, now):
     return DONE, {key: old._replace(single=single, multi=multi, lead=lead, moment=max(now, old.moment))}
 
 
-def outcome(rows, command, now, drawn=None):
+def outcome(rows, command, now, candidates=()):
     """What a command is answered at a moment, and the rows that it changes; None takes a row away."""
     if command.right == "merchant":
         return on_merchant(rows, command, now)
@@ -207,7 +138,7 @@ def outcome(rows, command, now, drawn=None):
         return refused(7), {}
     now = max(now, merchant.moment)
     if command.right == "tokenize":
-        return tokenize(rows, command, merchant, now, drawn)
+        return tokenize(rows, command, merchant, now, candidates)
     if command.right in ("grant", "withdraw"):
         return on_rights(command, merchant, now)
     if command.right != "audit":

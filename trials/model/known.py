@@ -2,46 +2,8 @@
 
 import collections
 
-from shared.rules import outcome
-
-
-class Rows:
-    """The rows of a vault by their keys, and the tokens of each number."""
-
-    def __init__(self, rows=None):
-        self.rows = {}
-        self.tokens = collections.defaultdict(set)
-        self.entries = collections.Counter()
-        self.put(rows or {})
-
-    def get(self, key):
-        return self.rows.get(key)
-
-    def made(self, merchant):
-        return self.entries[merchant]
-
-    def tokens_of(self, merchant, number):
-        return self.tokens[merchant, number]
-
-    def put(self, changes):
-        """Puts rows, and takes those away that are None."""
-        for key, row in changes.items():
-            if row is None:
-                self.rows.pop(key, None)
-                continue
-            if key[0] == "entry":
-                self.entries[key[1]] += key not in self.rows
-                self.tokens[key[1], row.number].add(key[2])
-            self.rows[key] = row
-
-    def unlike(self, other):
-        """The rows of another vault where they differ from these, with None for one that it hasn't."""
-        changed = {key: row for key, row in other.items() if self.rows.get(key) != row}
-        return changed | {key: None for key in self.rows.keys() - other.keys()}
-
-    def count(self, kind):
-        """How many rows of a kind there are."""
-        return sum(key[0] == kind for key in self.rows)
+from model.rules import outcome
+from model.vault import Rows
 
 
 class Changed:
@@ -92,13 +54,14 @@ class Known:
         gone = sum(key[0] == kind and row is None for key, row in changes)
         return self.rows.count(kind) + new - gone
 
-    def outcomes(self, possible, command, moments, drawn):
-        """What a command may be answered by what is possible, and the changes after it, without doubles."""
-        found = []
+    def outcomes(self, possible, command, moments, token):
+        """What a command may be answered by what is possible, and the changes after it, without doubles. Where
+        a token is new, it is this one."""
+        candidates, found = [token] if token else [], []
         for changes in possible:
             seen = Changed(self.rows, changes)
             for now in moments:
-                reply, more = outcome(seen, command, now, drawn)
+                reply, more = outcome(seen, command, now, candidates)
                 pair = reply, seen.after(more)
                 if pair not in found:
                     found.append(pair)
@@ -106,8 +69,8 @@ class Known:
 
     def take(self, command, moments, reply):
         """An answer came, at one of some moments: what is wrong with it, or nothing."""
-        drawn = reply[1].get("token") if isinstance(reply[1], dict) else None
-        found = self.outcomes(self.possible, command, moments, drawn)
+        token = reply[1].get("token") if isinstance(reply[1], dict) else None
+        found = self.outcomes(self.possible, command, moments, token)
         fitting = [changes for wanted, changes in found if wanted == reply]
         if not fitting:
             return f"{command.right} {command.request}: answered {reply}, not {[it[0] for it in found[:2]]}"
@@ -137,8 +100,8 @@ class Known:
                 break
             command = undecided[carried]
             record = found.get(("record", command.caller, command.request))
-            drawn = record.token if record and command.right == "tokenize" else None
-            further = self.outcomes(possible, command, moments, drawn)
+            token = record.token if record and command.right == "tokenize" else None
+            further = self.outcomes(possible, command, moments, token)
             possible = [changes for reply, changes in further if reply[0] != 0]
         return None
 
