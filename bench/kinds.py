@@ -22,6 +22,7 @@ import figures  # noqa: E402, without leaving a folder of its bytecode here
 import pipe  # noqa: E402
 import settings  # noqa: E402
 from model import cards  # noqa: E402, which settings lets Python find
+from shared.service import port_of  # noqa: E402
 from sides import told  # noqa: E402
 
 # a service has the system clock, so the tokens that stand before it have to be of today
@@ -121,7 +122,7 @@ class Counter:
     def serve(self, asked):
         """The same by a service with one connection that is kept, a message once its answer is there."""
         process = self.watched("serve", "--connections", 1, "--port", 0, self.copy())
-        port = int(re.fullmatch(rb"listening (\d+)\n", process.stdout.readline())[1])
+        port = port_of(process, SECONDS)
         with socket.create_connection(("127.0.0.1", port), timeout=SECONDS) as peer:
             peer.setsockopt(socket.IPPROTO_TCP, socket.TCP_NODELAY, 1)
             for one in asked:

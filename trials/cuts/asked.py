@@ -111,7 +111,7 @@ def side_by_side(story, disk, connect, merchants, many):
 
 def serve(story, disk, path, many, more):
     """Clients of a service side by side, and the service is ended while it waits."""
-    with Service(story.shop.program, path, 10**6, **more) as service:
+    with Service(story.shop.program, "--connections", 10**6, path, more=more) as service:
         with side_by_side(story, disk, service.connect, CALLERS, many // 2):
             pass
 

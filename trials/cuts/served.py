@@ -2,12 +2,11 @@
 
 import os
 import signal
-import socket
 from pathlib import Path
 
 from cuts.asked import side_by_side
 from followed.lists import END, MERCHANTS, RIGHTS, renamed
-from followed.service import Followed
+from followed.service import followed as following
 from kills.jobs import toml
 from kills.shop import clock
 from model import vault
@@ -55,17 +54,10 @@ def followed(story, disk, path, many, _):
     held = [Command("grant", *key[1:3], given=names[key[3]]) for key in story.shop.keys("right")]
     renamed(MERCHANTS, merchant_list([]) + END)
     renamed(RIGHTS, toml(held) + END)
-    service = Followed(story.shop.program, path)
-
-    def connect():
-        return socket.create_connection(("127.0.0.1", service.port), timeout=30)
-
-    try:
-        with side_by_side(story, disk, connect, ("shop1",), many) as lock:
+    with following(story.shop.program, path) as service:
+        with side_by_side(story, disk, service.connect, ("shop1",), many) as lock:
             for turn in range(TURNS):
                 turn_lists(story, disk, service, lock, held, turn)
-    finally:
-        service.kill()
 
 
 def deployed(story, name, *words):
@@ -88,7 +80,7 @@ def copied(story, disk, path, many, more):
     folder, back, marks = path.parents[1] / "copies", path.with_name("restored.db"), {}
     folder.mkdir()
     part = folder / f"{COPY}.part"
-    with Service(story.shop.program, path, 10**6, **more) as service:
+    with Service(story.shop.program, "--connections", 10**6, path, more=more) as service:
         with side_by_side(story, disk, service.connect, ("shop1", "shop2"), many // 2):
             service.process.send_signal(signal.SIGSTOP)
             until(lambda: is_stopped(service.process))

@@ -122,7 +122,7 @@ def shape(answer):
 
 def fault_of(program, file, sent, wanted):
     """What is wrong with the answers of a service to some bytes."""
-    with service.Service(program, file, 1) as served:
+    with service.Service(program, "--connections", 1, file) as served:
         if served.port is None:
             return f"no service: {served.ended()}"
         with served.connect() as peer:

@@ -1,15 +1,13 @@
 """The jobs that are run over a failing disk: their words, their input, and what they ask for."""
 
-import re
-import socket
-import subprocess
 from typing import NamedTuple
 
 from disk.grounds import HEADER, NOW, Ground
 from model.cards import completed
 from model.vault import RIGHTS, Command
 from shared.commands import line_answer, message, row, whole_answers
-from shared.runs import SECONDS, Ran, run
+from shared.runs import run
+from shared.service import Service, sent
 
 LONG = "batch with a long log"
 
@@ -45,20 +43,10 @@ def run_job(program, job, path, more=None):
     """Runs a job to its end."""
     if job.answers != "connections":
         return run(program, *job.words(path), given=job.given, more=more)
-    words = [program, *map(str, job.words(path))]
-    environment = {"PATH": "/usr/bin:/bin", **(more or {})}
-    with subprocess.Popen(
-        words, stdout=subprocess.PIPE, stderr=subprocess.PIPE, env=environment
-    ) as process:
-        line = process.stdout.readline()
-        found = re.fullmatch(rb"listening ([0-9]+)\n", line)
-        text = converse(int(found[1]), job.commands) if found else b""
-        try:
-            _, err = process.communicate(timeout=SECONDS)
-        except subprocess.TimeoutExpired:
-            process.kill()
-            return Ran(None, text, b"")
-        return Ran(process.returncode, text, err)
+    _, *words = job.words(path)
+    with Service(program, *words, more=more) as service:
+        text = converse(service.port, job.commands) if service.port else b""
+        return service.ended()._replace(out=text)
 
 
 def converse(port, commands):
@@ -66,11 +54,7 @@ def converse(port, commands):
     text = b""
     for command in commands:
         try:
-            with socket.create_connection(("127.0.0.1", port), timeout=SECONDS) as peer:
-                peer.sendall(message(command))
-                peer.shutdown(socket.SHUT_WR)
-                while piece := peer.recv(65536):
-                    text += piece
+            text += sent(port, message(command))
         except OSError:
             break
     return text

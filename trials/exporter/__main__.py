@@ -19,6 +19,7 @@ from front.services import two_vaults
 from haproxy.services import Front
 from shared import lines
 from shared.runs import until
+from shared.service import port_of
 from shared.tally import Tally, unlike
 
 SETTINGS = """front = "https://localhost:{port}"
@@ -48,9 +49,8 @@ class Exporter:
         words = [python, f"{repository}/deploy/exporter.py", "exporter.toml"]
         self.errors = open("exporter.err", "w+")
         more = {"env": {**os.environ, **environment}} if environment else {}
-        self.process = subprocess.Popen(words, stdout=subprocess.PIPE, stderr=self.errors, text=True, **more)
-        found = re.fullmatch(r"listening ([0-9]+)\n", self.process.stdout.readline())
-        self.port = int(found[1]) if found else 0
+        self.process = subprocess.Popen(words, stdout=subprocess.PIPE, stderr=self.errors, **more)
+        self.port = port_of(self.process) or 0
 
     def __enter__(self):
         return self

@@ -10,7 +10,7 @@ import threading
 import time
 import urllib.request
 
-from front.services import free_port
+from shared.ports import free_port
 from shared.runs import until
 from shared.tally import unlike
 

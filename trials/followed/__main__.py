@@ -8,7 +8,7 @@ import time
 from followed.lists import END, MERCHANTS, RIGHTS, TILLS, WAYS, merchants, renamed, rights, short, sweepers
 from followed.lists import written
 from followed.load import Load
-from followed.service import LATEST, ONE_LOOK, TWO_LOOKS, Followed, words
+from followed.service import LATEST, ONE_LOOK, TWO_LOOKS, Followed, followed, words
 from shared.runs import run
 from shared.tally import Tally, unlike
 
@@ -76,7 +76,7 @@ class Trial:
     def start(self):
         """The service, anew at its port."""
         port = self.held[0].port if self.held[0] else 0
-        self.held[0] = Followed(self.program, FILE, port)
+        self.held[0] = followed(self.program, FILE, port)
 
     @property
     def service(self):
@@ -115,7 +115,7 @@ class Trial:
         ):
             written(MERCHANTS, shops)
             written(RIGHTS, callers)
-            ran = run(*words(self.program, FILE))
+            ran = run(self.program, "serve", *words(FILE))
             self.tally.judge(f"a start with {name}", unlike((ran.status, ran.out), (1, wanted)))
 
     def ways(self):

@@ -3,16 +3,13 @@
 import itertools
 import json
 import queue
-import re
-import socket
-import subprocess
 import threading
 import time
 
 from followed.lists import MERCHANTS, RIGHTS
 from shared.messages import first_answer, token_asked
+from shared.service import Service, must_serve, sent
 
-LISTENING = re.compile(r"listening ([0-9]+)\n")
 # within how many seconds a change has to be in force
 LATEST = 2.0
 # within how many seconds there is a look, and within how many there are two
@@ -21,36 +18,30 @@ ONE_LOOK, TWO_LOOKS = 1.0, 1.3
 REQUESTS = itertools.count(10**9)
 
 
-def words(program, file, port=0):
-    """What starts a service of a file that follows both lists."""
-    return [program, "serve", "--port", str(port), "--merchants", MERCHANTS, "--rights", RIGHTS, file]
+def words(file, port=0):
+    """What a service of a file is told that follows both lists."""
+    return "--port", port, "--merchants", MERCHANTS, "--rights", RIGHTS, file
 
 
-class Followed:
+class Followed(Service):
     """The program as it serves a file on a port and follows both lists."""
 
-    def __init__(self, program, file, port=0):
-        pipe = subprocess.PIPE
-        self.process = subprocess.Popen(words(program, file, port), stdout=pipe, text=True)
-        line = self.process.stdout.readline()
-        found = LISTENING.fullmatch(line)
-        if not found:
-            raise SystemExit(f"the service said {line!r}\n0 passed, 1 failed")
-        self.port = int(found[1])
+    def __init__(self, program, *words, errors=None):
+        super().__init__(program, *words, errors=errors)
         self.lines = queue.Queue()
-        threading.Thread(target=self.read, daemon=True).start()
+        self.reader = threading.Thread(target=self.read, daemon=True)
+        self.reader.start()
 
     def read(self):
         """Keeps the lines that it says, without their moments, which are checked."""
         for line in self.process.stdout:
-            text, _, moment = line.strip().rpartition(" at ")
+            text, _, moment = line.decode().strip().rpartition(" at ")
             near = moment.isdecimal() and abs(int(moment) - time.time()) < 5
-            self.lines.put(text if near else f"{line.strip()}, at another time")
+            self.lines.put(text if near else f"{line.decode().strip()}, at another time")
 
-    def kill(self):
-        """Ends it by a signal that it can't see."""
-        self.process.kill()
-        self.process.wait()
+    def close(self):
+        self.reader.join()
+        super().close()
 
     def said(self, seconds=LATEST):
         """The next line, where one comes within that time."""
@@ -61,10 +52,7 @@ class Followed:
 
     def ask(self, caller, request, merchant="shop1"):
         """The answer to one message that asks for a token: its status and its body."""
-        with socket.create_connection(("127.0.0.1", self.port), timeout=30) as peer:
-            peer.sendall(token_asked(request, caller=caller, merchant=merchant))
-            peer.shutdown(socket.SHUT_WR)
-            answer, _ = first_answer(b"".join(iter(lambda: peer.recv(65536), b"")))
+        answer, _ = first_answer(sent(self.port, token_asked(request, caller=caller, merchant=merchant)))
         return answer.status, answer.body
 
     def status(self, caller, merchant="shop1"):
@@ -85,3 +73,8 @@ class Followed:
             if found or spent > latest:
                 return spent if found and spent <= latest else None
             time.sleep(0.02)
+
+
+def followed(program, file, port=0):
+    """A service of a file that follows both lists."""
+    return must_serve(program, *words(file, port), kind=Followed)

@@ -9,8 +9,8 @@ import threading
 import time
 
 from front.clients import NUMBER, Client
-from front.services import has_ipv6
 from shared import lines
+from shared.ports import has_ipv6
 from shared.runs import until
 from shared.tally import unlike
 

@@ -2,33 +2,17 @@
 
 import contextlib
 import os
-import re
 import shutil
-import socket
 import subprocess
-import time
 
 from shared import shop
+from shared.ports import free_port, has_ipv6, takes_connections
+from shared.runs import until
+from shared.service import must_serve
 
 # What a back office may do elsewhere, and not at these vaults.
 REST = {"back": ("view", "revoke", "purge")}
 RELOAD = f"{os.path.dirname(os.path.abspath(__file__))}/../../deploy/reload"
-LISTENING = re.compile(rb"listening ([0-9]+)\n")
-
-
-def free_port():
-    """A port that nobody listens on just now."""
-    with socket.create_server(("127.0.0.1", 0)) as listening:
-        return listening.getsockname()[1]
-
-
-def has_ipv6():
-    """Whether this machine has a loopback of IPv6."""
-    try:
-        socket.create_server(("::1", 0), family=socket.AF_INET6).close()
-        return True
-    except OSError:
-        return False
 
 
 class Vault:
@@ -49,11 +33,8 @@ class Vault:
 
     def start(self):
         """Starts it as the unit does: without a number of connections."""
-        words = [self.program, "serve", "--port", str(self.port), *self.listed, self.file]
-        self.process = subprocess.Popen(words, stdout=subprocess.PIPE)
-        line = self.process.stdout.readline()
-        if not LISTENING.fullmatch(line):
-            raise SystemExit(f"the vault said {line!r}\n0 passed, 1 failed")
+        self.service = must_serve(self.program, "--port", self.port, *self.listed, self.file)
+        self.process, self.stop, self.kill = self.service.process, self.service.stop, self.service.kill
 
     def list(self, rights):
         """From its next start on its rights are those of a rights file with this text, and no others."""
@@ -61,18 +42,6 @@ class Vault:
         with open(path, "w") as file:
             file.write(rights)
         self.listed = ["--rights", path]
-
-    def stop(self):
-        """Ends it as its unit does."""
-        self.process.terminate()
-        self.process.wait()
-        self.process.stdout.close()
-
-    def kill(self):
-        """Ends it as nothing can prevent."""
-        self.process.kill()
-        self.process.wait()
-        self.process.stdout.close()
 
 
 @contextlib.contextmanager
@@ -145,14 +114,9 @@ class Front(Reloaded):
 
     def wait(self):
         """Until it takes connections."""
-        for _ in range(100):
-            try:
-                socket.create_connection(("127.0.0.1", self.port)).close()
-                return
-            except OSError:
-                time.sleep(0.05)
-        self.process.kill()
-        raise SystemExit(f"the front didn't start: {self.process.stderr.read()}\n0 passed, 1 failed")
+        if not until(lambda: takes_connections(self.port), 5):
+            self.process.kill()
+            raise SystemExit(f"the front didn't start: {self.process.stderr.read()}\n0 passed, 1 failed")
 
     def end(self):
         self.process.terminate()

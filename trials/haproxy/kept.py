@@ -2,10 +2,10 @@
 
 import socket
 import subprocess
-import time
 
-from front.services import free_port
 from peers import kept
+from shared.ports import free_port, takes_connections
+from shared.runs import until
 from shared.tally import unlike
 
 CLIENTS, MESSAGES = 8, 15
@@ -33,14 +33,10 @@ class Plain:
 
     def __enter__(self):
         self.process = subprocess.Popen(["haproxy", "-db", "-f", "plain.cfg"], stderr=subprocess.DEVNULL)
-        for _ in range(100):
-            try:
-                self.connect().close()
-                return self
-            except OSError:
-                time.sleep(0.05)
-        self.process.kill()
-        raise SystemExit("a plain front didn't start\n0 passed, 1 failed")
+        if not until(lambda: takes_connections(self.port), 5):
+            self.process.kill()
+            raise SystemExit("a plain front didn't start\n0 passed, 1 failed")
+        return self
 
     def __exit__(self, *_):
         self.process.kill()

@@ -4,12 +4,12 @@ import os
 import re
 import shutil
 import signal
-import socket
 import subprocess
-import time
 import urllib.request
 
-from front.services import Reloaded, free_port, has_ipv6
+from front.services import Reloaded
+from shared.ports import free_port, has_ipv6, takes_connections
+from shared.runs import until
 
 # the log is a file here, and a socket of syslog where it is installed
 TO_FILE = (("log /dev/log local0", "log stdout format raw local0"),)
@@ -81,16 +81,9 @@ class Front(Reloaded):
         words = ["haproxy", "-W", "-db", "-f", "haproxy.cfg"]
         with open(self.log, "ab") as log, open("haproxy.err", "ab") as errors:
             self.process = subprocess.Popen(words, stdout=log, stderr=errors)
-        for _ in range(100):
-            try:
-                socket.create_connection(("127.0.0.1", self.port)).close()
-                if self.workers():
-                    return
-            except OSError:
-                pass
-            time.sleep(0.05)
-        self.end()
-        raise SystemExit(f"the front didn't start: {open('haproxy.err').read()}\n0 passed, 1 failed")
+        if not until(lambda: takes_connections(self.port) and self.workers(), 5):
+            self.end()
+            raise SystemExit(f"the front didn't start: {open('haproxy.err').read()}\n0 passed, 1 failed")
 
     def numbers(self):
         """What its exporter says."""

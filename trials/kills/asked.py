@@ -1,13 +1,13 @@
 """Messages to a program that is killed among them: to a service, and in a pipe."""
 
 import os
-import re
 import socket
 
 from kills.shop import clock
 from kills.stopped import Stopped
 from shared.commands import message, whole_answers
 from shared.runs import SECONDS
+from shared.service import port_of
 
 MOST = 120
 
@@ -129,10 +129,9 @@ def serve(shop, aims):
     run = Run("serve")
     run.aim = aims.by_answers(MOST)
     stopped = Stopped([shop.program, "serve", "--connections", 10000, shop.path], *run.aim)
-    line = stopped.process.stdout.readline()
-    found = re.fullmatch(rb"listening ([0-9]+)\n", line)
-    if found:
-        while converse(shop, run, int(found[1]), stopped) and run.answers < 2 * MOST:
+    port = port_of(stopped.process)
+    if port:
+        while converse(shop, run, port, stopped) and run.answers < 2 * MOST:
             pass
     end_asking(run, stopped)
     return run

@@ -1,10 +1,9 @@
 """The program as it is killed: a while after its start, or a while after some of its answers."""
 
 import subprocess
-import threading
 import time
 
-from shared.runs import SECONDS
+from shared.runs import Limit
 
 
 class Stopped:
@@ -18,22 +17,15 @@ class Stopped:
             stdin=subprocess.PIPE, stdout=subprocess.PIPE, stderr=subprocess.PIPE, bufsize=0,
         )
         self.begun = time.monotonic()
-        self.hung = False
         self.timer = None
-        self.latest = threading.Timer(SECONDS, self.give_up)
-        self.latest.start()
+        self.latest = Limit(self.process)
         if after is None:
             self.kill_after(wait)
 
     def kill_after(self, seconds):
         """Kills the program after so many seconds."""
         if self.timer is None:
-            self.timer = threading.Timer(seconds, self.process.kill)
-            self.timer.start()
-
-    def give_up(self):
-        self.hung = True
-        self.process.kill()
+            self.timer = Limit(self.process, seconds)
 
     def saw(self, answers):
         """So many answers have come."""
@@ -48,6 +40,10 @@ class Stopped:
             if timer:
                 timer.cancel()
         return self.process.returncode, out, err
+
+    @property
+    def hung(self):
+        return self.latest.came
 
     @property
     def killed(self):

@@ -1,12 +1,11 @@
 """One run of a job with one request refused, and what is wrong with it."""
 
 import os
-import subprocess
 
 from memory import jobs
 from shared import messages
 from shared.files import copied, removed
-from shared.runs import HAS_LOG, SECONDS, Ran, run
+from shared.runs import HAS_LOG, run
 
 
 class Trial:
@@ -25,18 +24,9 @@ class Trial:
         if self.job.base:
             copied(self.folder / self.job.base, file)
         reader, writer = os.pipe()
-        environment = {
-            **os.environ, "LD_PRELOAD": str(self.library), "REFUSE_AT": str(at), "REFUSE_TOLD": str(writer),
-        }
-        words = [str(word) for word in (self.program, *self.job.line(file))]
-        try:
-            ended = subprocess.run(
-                words, input=self.job.given, capture_output=True, timeout=SECONDS, env=environment,
-                pass_fds=(writer,),
-            )
-            ran = Ran(ended.returncode, ended.stdout, ended.stderr)
-        except subprocess.TimeoutExpired as late:
-            ran = Ran(None, late.stdout or b"", late.stderr or b"")
+        more = {"LD_PRELOAD": str(self.library), "REFUSE_AT": str(at), "REFUSE_TOLD": str(writer)}
+        line, given = self.job.line(file), self.job.given
+        ran = run(self.program, *line, given=given, more=more, pass_fds=(writer,))
         os.close(writer)
         with open(reader, "rb") as told:
             return ran, told.read().decode(), file

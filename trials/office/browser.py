@@ -10,7 +10,7 @@ import urllib.error
 import urllib.request
 
 from front.certificates import openssl
-from front.services import free_port
+from shared.ports import free_port
 
 ELEMENT = "element-6066-11e4-a52e-4f735466cecf"
 # the driver and its browser see policies of their own: nothing of the machine's is changed

@@ -7,7 +7,7 @@ import threading
 import time
 
 from peers import kept, slow
-from peers.shop import Service, asked, expires_of, made, token_of
+from peers.shop import asked, expires_of, made, served, token_of
 from shared.runs import must, run
 from shared.tally import Tally, unlike
 
@@ -25,7 +25,7 @@ def behind(program, tally, work, least, most):
     """Another peer behind a slow one: it waits for as long as the slow one may take."""
     file = f"{work.__name__}.db"
     made(program, file)
-    with Service(program, file) as service:
+    with served(program, file) as service:
         stop = threading.Event()
         thread = threading.Thread(target=work, args=(service, stop))
         thread.start()
@@ -43,7 +43,7 @@ def behind(program, tally, work, least, most):
 def idlers(program, tally):
     """A message behind ten peers that connect and say nothing."""
     made(program, "idlers.db")
-    with Service(program, "idlers.db") as service:
+    with served(program, "idlers.db") as service:
         peers = [service.connect() for _ in range(10)]
         seconds, answer = service.answered(7)
         fault = "no token" if token_of(answer) is None else ""
@@ -56,7 +56,7 @@ def idlers(program, tally):
 def crowd(program, tally):
     """Eight clients that keep their connections, each with a message a second, are all answered soon."""
     made(program, "crowd.db")
-    with Service(program, "crowd.db") as service:
+    with served(program, "crowd.db") as service:
         clients = [kept.Client(service, 1000 * turn, 15, 1) for turn in range(1, 9)]
         for client in clients:
             client.start()
@@ -72,7 +72,7 @@ def crowd(program, tally):
 def alone(program, tally):
     """A client that nobody waits behind keeps its one connection over its pauses."""
     made(program, "alone.db")
-    with Service(program, "alone.db") as service:
+    with served(program, "alone.db") as service:
         client = kept.Client(service, 1000, 4, 3)
         client.start()
         client.join()
@@ -83,7 +83,7 @@ def alone(program, tally):
 def patience(program, tally):
     """A peer that begins late, and one that pauses, are answered."""
     made(program, "patience.db")
-    with Service(program, "patience.db") as service, service.connect() as peer:
+    with served(program, "patience.db") as service, service.connect() as peer:
         time.sleep(2)
         peer.sendall(asked(1)[:40])
         time.sleep(2)
@@ -97,7 +97,7 @@ def tokens(program, tally):
     made(program, "drawn.db")
     found = []
     for turn in range(2):
-        with Service(program, "drawn.db") as service, service.connect() as peer:
+        with served(program, "drawn.db") as service, service.connect() as peer:
             for request in (2 * turn + 1, 2 * turn + 2):
                 peer.sendall(asked(request))
                 found.append(token_of(peer.recv(65536)))
@@ -109,7 +109,7 @@ def tokens(program, tally):
     first = []
     for file in ("one.db", "two.db"):
         made(program, file)
-        with Service(program, file) as service:
+        with served(program, file) as service:
             first.append(token_of(service.answered(1)[1]))
         first.append(token_of(run(program, "pipe", file, given=asked(2)).out))
     tally.judge("and four of two more vaults", unlike(len(set(first) - {None}), 4))
@@ -119,7 +119,7 @@ def moments(program, tally):
     """Each message of a connection has the clock's own second, and a sweep the second at which it comes."""
     made(program, "moments.db", life=1)
     ends = []
-    with Service(program, "moments.db") as service, service.connect() as peer:
+    with served(program, "moments.db") as service, service.connect() as peer:
         for request in (1, 2):
             before = int(time.time())
             peer.sendall(asked(request))
@@ -150,7 +150,7 @@ def listening_at(port):
 def address(program, tally):
     """The service listens on 127.0.0.1 alone."""
     made(program, "address.db")
-    with Service(program, "address.db") as service:
+    with served(program, "address.db") as service:
         tally.judge("127.0.0.1 alone", unlike(listening_at(service.port), {"0100007F"}))
 
 
@@ -169,7 +169,7 @@ def unchecked(program, tally):
 def ended(program, tally):
     """A service that is ended by a signal loses nothing."""
     made(program, "ended.db")
-    with Service(program, "ended.db") as service:
+    with served(program, "ended.db") as service:
         token = token_of(service.answered(1)[1])
         service.process.terminate()
         service.process.wait()

@@ -1,12 +1,11 @@
-"""A service of the program on a free port, without a last connection, and messages to it."""
+"""A service of the program without a last connection, and messages to it."""
 
 import json
-import re
 import socket
-import subprocess
 import time
 
 from shared import shop
+from shared.service import Service, must_serve, received
 
 NUMBER = "4111111111111111"
 # The bytes of a short segment.
@@ -25,24 +24,8 @@ def asked(request):
     return f"{head}\r\nContent-Length: {len(body)}\r\n\r\n{body}".encode()
 
 
-class Service:
-    """The program as it serves a file; it is ended at the end of a `with`."""
-
-    def __init__(self, program, file):
-        words = [program, "serve", "--port", "0", file]
-        self.process = subprocess.Popen(words, stdout=subprocess.PIPE)
-        line = self.process.stdout.readline()
-        found = re.fullmatch(rb"listening ([0-9]+)\n", line)
-        if not found:
-            raise SystemExit(f"the service said {line!r}\n0 passed, 1 failed")
-        self.port = int(found[1])
-
-    def __enter__(self):
-        return self
-
-    def __exit__(self, *_):
-        self.process.kill()
-        self.process.communicate()
+class Served(Service):
+    """The program as it serves a file; peers may take little, and wait for long."""
 
     def connect(self, room=None):
         """A connection; with `room` either side takes little before somebody reads: the service's own room
@@ -62,10 +45,13 @@ class Service:
         with self.connect() as peer:
             peer.sendall(asked(request))
             peer.shutdown(socket.SHUT_WR)
-            found = b""
-            while piece := peer.recv(65536):
-                found += piece
+            found = received(peer)
         return time.monotonic() - begun, found
+
+
+def served(program, file):
+    """A service of a file."""
+    return must_serve(program, file, kind=Served)
 
 
 def given(answer):

@@ -94,7 +94,7 @@ def served(stream):
     before = int(time.time())
     due, _ = ground.expected(stream.text, before, hidden())
     pieces = cuttings.randomly(random.Random(stream.seed), stream.text)
-    with service.Service(ground.program, file, 1) as open_service:
+    with service.Service(ground.program, "--connections", 1, file) as open_service:
         if open_service.port is None:
             return f"no service: {open_service.ended()}"
         with open_service.connect() as peer:

@@ -5,9 +5,8 @@ import fcntl
 import os
 import subprocess
 import tempfile
-import threading
 
-from shared.runs import SECONDS, Ran
+from shared.runs import Limit, Ran
 
 # A packet is no longer than this.
 PACKET = 4096
@@ -64,12 +63,9 @@ def piped(words, pieces):
     with tempfile.TemporaryFile() as out, tempfile.TemporaryFile() as err:
         process = subprocess.Popen([str(word) for word in words], stdin=reader, stdout=out, stderr=err)
         os.close(reader)
-        late = threading.Timer(SECONDS, process.kill)
-        late.start()
-        write_all(writer, pieces)
-        status = process.wait()
-        hung = not late.is_alive()
-        late.cancel()
+        with Limit(process) as limit:
+            write_all(writer, pieces)
+            status = process.wait()
         out.seek(0)
         err.seek(0)
-        return Ran(None if hung else status, out.read(), err.read())
+        return Ran(None if limit.came else status, out.read(), err.read())

@@ -2,16 +2,13 @@
 its first fault; and by whom a service that reads one purges dead tokens."""
 
 import re
-import socket
-import subprocess
-import threading
 import time
 from pathlib import Path
 
 from runs import cases
 from shared import messages, shop
-from shared.runs import SECONDS, must
-from shared.service import LISTENING
+from shared.runs import Limit, must
+from shared.service import Service
 from shared.tally import unlike
 
 # Lists, and the merchants that they set in the order of their names: each with its lives and its lead.
@@ -78,17 +75,14 @@ def sold(program, file, request, merchant, sweepers):
 
 def said(program, file, path):
     """The status and the lines of a service that reads a list, and ends behind a connection."""
-    words = [program, "serve", "--connections", "1", "--merchants", path, file]
-    with subprocess.Popen(words, stdout=subprocess.PIPE) as service:
-        late = threading.Timer(SECONDS, service.kill)
-        late.start()
-        found = LISTENING.fullmatch(service.stdout.readline())
-        first = service.stdout.readline()
-        if found and first:
-            socket.create_connection(("127.0.0.1", int(found[1])), timeout=SECONDS).close()
-        lines = (first + service.stdout.read()).decode()
-        late.cancel()
-    return service.returncode, re.sub(r" at [0-9]+$", "", lines, flags=re.MULTILINE)
+    words = ("--connections", 1, "--merchants", path, file)
+    with Service(program, *words) as service, Limit(service.process):
+        first = service.process.stdout.readline()
+        if service.port and first:
+            service.connect().close()
+        ended = service.ended()
+    lines = (first + ended.out).decode()
+    return ended.status, re.sub(r" at [0-9]+$", "", lines, flags=re.MULTILINE)
 
 
 def judge_read(tally, program, place, text, merchants):

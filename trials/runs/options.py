@@ -2,14 +2,13 @@
 
 import os
 import shutil
-import socket
-import subprocess
 from pathlib import Path
 
 from runs import cases
 from shared import messages
-from shared.runs import SECONDS, run
-from shared.service import LISTENING
+from shared.ports import free_port
+from shared.runs import run
+from shared.service import must_serve
 from shared.tally import unlike
 
 FILE, LIST, MERCHANTS = "v.db", "rights.toml", "merchants.toml"
@@ -131,29 +130,21 @@ SERVED = (
 )
 
 
-def free_port():
-    """A port that nobody has at this moment."""
-    with socket.socket() as one:
-        one.bind(("127.0.0.1", 0))
-        return one.getsockname()[1]
-
-
 def judge_service(tally, program, line):
     """A service by these words: its port, how many connections it serves, whether it follows its lists."""
     begun(program, True)
     port = free_port()
-    words = line.format(port=port).split()
+    words = line.format(port=port).split()[1:]
     many = 3 if "3" in words or "--connections=3" in words else 1
-    with subprocess.Popen([program, *words], stdout=subprocess.PIPE) as service:
-        found = int(LISTENING.fullmatch(service.stdout.readline())[1])
+    with must_serve(program, *words) as service:
         for _ in range(many):
-            with socket.create_connection(("127.0.0.1", found), timeout=SECONDS) as peer:
+            with service.connect() as peer:
                 peer.sendall(messages.asked("GET", "/v1/merchants/shop1/audit"))
                 peer.recv(100)
-        status = service.wait(SECONDS)
+        status = service.ended().status
     tally.judge(f"{line}: ends", unlike(status, 0), "options")
     if "{port}" in line:
-        tally.judge(f"{line}: its port", unlike(found, port), "options")
+        tally.judge(f"{line}: its port", unlike(service.port, port), "options")
     there = listed(program)
     followed = (VIEW in there, any("single 90" in it for it in there))
     wanted = ("--rights" in line, "--merchants" in line)

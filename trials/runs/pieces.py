@@ -6,13 +6,12 @@ import os
 import subprocess
 import sys
 import termios
-import threading
 
 from runs import cases
 from runs.cases import ASKED, MOST_SHOWN, SHOP
 from runs.connections import ANSWERED
 from runs.heads import CALLERLESS, NAMELESS, NO_HEAD, TOO_LARGE
-from shared.runs import SECONDS, Ran
+from shared.runs import Limit, Ran
 from shared.tally import unlike
 
 # A message without a body, and one with a body but without a request number.
@@ -70,10 +69,9 @@ class Fed:
         self.process = subprocess.Popen(words, bufsize=0, stdin=pipe, stdout=pipe, stderr=pipe)
         os.set_blocking(self.process.stdout.fileno(), False)
         self.stat = os.open(f"/proc/{self.process.pid}/stat", os.O_RDONLY)
-        self.late = threading.Timer(SECONDS, self.process.kill)
+        self.late = Limit(self.process)
 
     def __enter__(self):
-        self.late.start()
         return self
 
     def __exit__(self, *_):

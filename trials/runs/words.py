@@ -1,10 +1,9 @@
 """Words that ask for no job, for help, or by a bad name; and words that the program doesn't get."""
 
 import resource
-import subprocess
 
 from runs.cases import Case, fault_of
-from shared.runs import SECONDS, Ran, run
+from shared.runs import run
 
 # Words that ask for no job.
 BAD = (
@@ -45,13 +44,6 @@ def limit_memory():
     resource.setrlimit(resource.RLIMIT_DATA, (LIMIT, LIMIT))
 
 
-def without_memory(program):
-    """Runs the program by words for which it has no memory."""
-    words, pipe = (program, *LONG), subprocess.PIPE
-    ended = subprocess.run(words, stdout=pipe, stderr=pipe, timeout=SECONDS, preexec_fn=limit_memory)
-    return Ran(ended.returncode, ended.stdout, ended.stderr)
-
-
 def judged(tally, program):
     """No run needs a file."""
     Case(tally, program, "words that ask for no job are bad").ends(*BAD)
@@ -62,4 +54,4 @@ def judged(tally, program):
     case = Case(tally, program, "words that are no text are bad")
     case.judge("a byte", fault_of(run(program, NO_TEXT), 2, "", "vault: bad words\n"))
     case = Case(tally, program, "words without memory stop with 20")
-    case.judge("long words", fault_of(without_memory(program), 4, "", "vault: stopped 20\n"))
+    case.judge("long words", fault_of(run(program, *LONG, preexec_fn=limit_memory), 4, "", "vault: stopped 20\n"))

@@ -3,7 +3,6 @@ is a program of its own, since it runs in a machine's network: python3 -m shared
 
 import contextlib
 import json
-import socket
 import subprocess
 import sys
 import threading
@@ -11,6 +10,7 @@ import time
 
 from model.cards import completed
 from shared.messages import NoAnswer, first_answer, order, token_asked
+from shared.service import sent
 
 # how long one request is asked again, and after which pause
 PATIENCE, PAUSE = 60.0, 0.05
@@ -28,10 +28,8 @@ class Asking:
     def ask(self, caller, request):
         """One message on a connection of its own; its status and token."""
         body = order(completed(f"4{caller:03}{request:011}"))
-        with socket.create_connection(("127.0.0.1", self.port), timeout=PATIENCE) as peer:
-            peer.sendall(token_asked(request, body, caller=f"till-{caller}"))
-            peer.shutdown(socket.SHUT_WR)
-            answer, _ = first_answer(b"".join(iter(lambda: peer.recv(65536), b"")))
+        text = token_asked(request, body, caller=f"till-{caller}")
+        answer, _ = first_answer(sent(self.port, text, PATIENCE))
         return answer.status, json.loads(answer.body).get("token")
 
     def answered(self, caller, request):

@@ -3,6 +3,7 @@
 import concurrent.futures
 import os
 import subprocess
+import threading
 import time
 from typing import NamedTuple
 
@@ -53,12 +54,33 @@ class Ran(NamedTuple):
         return self.broke or f"status {self.status}, {self.told or self.out[-60:]!r}"
 
 
-def run(program, *words, given=b"", limit=SECONDS, more=None):
-    """Runs the program with these words; `given` is its standard input, `more` goes to its environment."""
-    environment = {**os.environ, **more} if more else None
+class Limit(threading.Timer):
+    """Kills a process that isn't over in time; `came` says whether it did. The limit is over with a `with`."""
+
+    def __init__(self, process, seconds=SECONDS):
+        super().__init__(seconds, self.come)
+        self.process, self.came = process, False
+        self.start()
+
+    def come(self):
+        self.came = True
+        self.process.kill()
+
+    def __enter__(self):
+        return self
+
+    def __exit__(self, *_):
+        self.cancel()
+
+
+def run(program, *words, given=b"", limit=SECONDS, more=None, **how):
+    """Runs the program with these words; `given` is its standard input, `more` goes to its environment, and
+    `how` says more of how it is started."""
+    environment = os.environ | (more or {})
+    words = [program, *map(str, words)]
     try:
         ended = subprocess.run(
-            [program, *map(str, words)], input=given, capture_output=True, timeout=limit, env=environment
+            words, input=given, capture_output=True, timeout=limit, env=environment, **how
         )
     except subprocess.TimeoutExpired as late:
         return Ran(None, late.stdout or b"", late.stderr or b"")

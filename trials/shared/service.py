@@ -1,4 +1,4 @@
-"""A service of the program over a file, and connections to it."""
+"""A service of the program, and connections to it."""
 
 import os
 import re
@@ -6,29 +6,51 @@ import socket
 import subprocess
 import time
 
-from shared.runs import SECONDS, Ran
+from shared.runs import SECONDS, Limit, Ran
 
 LISTENING = re.compile(rb"listening ([0-9]+)\n")
 
 
-class Service:
-    """The program as it serves so many connections on a free port; it is over at the end of a `with`."""
+def port_of(process, seconds=SECONDS):
+    """The port of a service that was just started, by the line that it says; None where it says another one, or
+    none in that time."""
+    with Limit(process, seconds):
+        found = LISTENING.fullmatch(process.stdout.readline())
+    return int(found[1]) if found else None
 
-    def __init__(self, program, file, connections, **environment):
-        words = [program, "serve", "--connections", str(connections), "--port", "0", str(file)]
-        pipe = subprocess.PIPE
-        self.process = subprocess.Popen(words, stdout=pipe, stderr=pipe, env=os.environ | environment)
-        line = self.process.stdout.readline()
-        found = LISTENING.fullmatch(line)
-        self.port = int(found[1]) if found else None
+
+class Service:
+    """The program as it serves by these words, on a free port where they name none; it is over at the end of a
+    `with`. `more` goes to its environment. Its errors are kept, or go to this place."""
+
+    def __init__(self, program, *words, more=None, errors=subprocess.PIPE):
+        self.process = subprocess.Popen(
+            [program, "serve", *map(str, words)],
+            stdout=subprocess.PIPE, stderr=errors, env=os.environ | (more or {}), bufsize=0,
+        )
+        self.port = port_of(self.process)
 
     def __enter__(self):
         return self
 
     def __exit__(self, *_):
-        if self.process.poll() is None:
-            self.process.kill()
-        self.process.communicate()
+        self.kill()
+
+    def kill(self):
+        """Ends it as nothing can prevent."""
+        self.process.kill()
+        self.close()
+
+    def stop(self):
+        """Ends it as its unit does."""
+        self.process.terminate()
+        self.close()
+
+    def close(self):
+        """Waits for its end, and leaves what it said."""
+        self.process.wait()
+        for pipe in filter(None, (self.process.stdout, self.process.stderr)):
+            pipe.close()
 
     def connect(self):
         """A new connection, of which each write is a piece of its own."""
@@ -42,7 +64,15 @@ class Service:
             out, err = self.process.communicate(timeout=SECONDS)
         except subprocess.TimeoutExpired:
             return Ran(None, b"", b"")
-        return Ran(self.process.returncode, out, err)
+        return Ran(self.process.returncode, out, err or b"")
+
+
+def must_serve(program, *words, kind=Service):
+    """A service that a trial builds on: it has to listen. Its errors are the trial's own."""
+    service = kind(program, *words, errors=None)
+    if service.port is None:
+        raise SystemExit(f"no service: {service.ended()}\n0 passed, 1 failed")
+    return service
 
 
 def send(peer, pieces, pause=0.0):
@@ -70,3 +100,9 @@ def received(peer):
         if not piece:
             return found
         found += piece
+
+
+def sent(port, text, seconds=SECONDS):
+    """Sends bytes over a connection of their own, and answers all that comes back."""
+    with socket.create_connection(("127.0.0.1", port), timeout=seconds) as peer:
+        return send(peer, [text])

@@ -61,7 +61,7 @@ def allocator():
 
 def kept(program, file):
     """How many bytes a service over a file keeps once it listens."""
-    with Service(program, file, 1, **allocator()) as service:
+    with Service(program, "--connections", 1, file, more=allocator()) as service:
         time.sleep(4)
         lines = Path(f"/proc/{service.process.pid}/status").read_text().splitlines()
     return next(int(line.split()[1]) * 1024 for line in lines if line.startswith("VmRSS:"))
