@@ -45,7 +45,7 @@ counts_before() {
     if [ -e "$folder/restored" ]; then
         cat "$folder/restored"
     else
-        find "$folder" -maxdepth 1 -name 'vault-[0-9]*Z.db.sound' | sort | tail -n 1 | xargs -r cat
+        "$lib/newest" "$folder" | xargs -r cat
     fi
 }
 

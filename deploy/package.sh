@@ -23,13 +23,9 @@ chmod 755 "$root"
 place() { install -D -m "$1" "$2" "$root$3"; }
 place 755 "$program" /usr/bin/vault
 strip --strip-all "$root/usr/bin/vault"
-for unit in vault.service vault-failed.service \
-    vault-backup.service vault-backup-failed.service vault-backup.timer \
-    vault@.service vault-failed@.service vault-backup@.service vault-backup@.timer vault-watch@.service \
-    vault-exporter.service; do
-    place 644 "$here/$unit" "/lib/systemd/system/$unit"
-done
-for step in pause jumped room port listens answers watch thaw alarm counted moments backup-now backup.sh \
+mkdir -p "$root/lib/systemd/system"
+sh "$here/units.sh" "$root/lib/systemd/system"
+for step in pause jumped room port listens answers watch thaw alarm counted moments newest backup-now backup.sh \
     restore.sh again.sh exporter.py; do
     place 755 "$here/$step" "/usr/lib/vault/$step"
 done
@@ -98,7 +94,10 @@ Description: keeps card numbers, and gives tokens for them
  Faults are told on the issues page of the repository that this comes from;
  $doc/SECURITY.md says how a weakness is.
 END
-install -m 755 "$here/debian/preinst" "$here/debian/postinst" "$here/debian/prerm" "$here/debian/postrm" \
-    "$root/DEBIAN/"
+for script in preinst postinst prerm postrm; do
+    # what two of them ask stands in a file of its own
+    sed -e "/^#clustered\$/{r $here/debian/clustered" -e 'd}' "$here/debian/$script" > "$root/DEBIAN/$script"
+    chmod 755 "$root/DEBIAN/$script"
+done
 dpkg-deb --root-owner-group --build "$root" "$folder/vault_${version}_amd64.deb" > /dev/null
 echo "$folder/vault_${version}_amd64.deb"

@@ -88,15 +88,7 @@ step "an empty list withdraws all" 'granted 0 withdrawn 3 (0)' \
 
 # A service that begins with lists, by their paths.
 serve() {
-    "$program" serve --connections 1 "$@" vault.db > served 2> errors &
-    service=$!
-    port=
-    tries=0
-    while [ -z "$port" ] && [ "$tries" -lt 100 ] && kill -0 "$service" 2> kill.err; do
-        pause
-        port=$(sed -n 's/^listening //p' served)
-        tries=$((tries + 1))
-    done
+    start_service --connections 1 "$@" vault.db
 }
 printf '[back]\nshop1 = ["audit"]\n' > first.toml
 serve --rights first.toml

@@ -21,7 +21,7 @@ for right in detokenize view revoke purge audit; do
 done
 
 # Eleven connections, one for each answer.
-start_service 11 vault.db
+must_serve --connections 11 vault.db
 first=$(ask_token 7)
 step "a token is given" "{\"expires\":[0-9]*,\"token\":\"${digits12}1111\"} 200" "$first"
 token=$(token_of "$first")

@@ -95,7 +95,7 @@ step "3: it stays as it was" 'A line of text, and no database.' "$(cat text)"
 step "3: a folder" 'vault: file not opened 34 (3)' "$(checked folder)"
 step "3: a path into nowhere" 'vault: file not opened 34 (3)' "$(checked nowhere/vault.db)"
 step "3: no name of a file" 'vault: file not opened 34 (3)' "$(told "$program" pipe :memory:)"
-start_service 100 shop.db
+must_serve --connections 100 shop.db
 step "3: a file that is in use" 'vault: file not opened 34 (3)' "$(checked shop.db)"
 step "3: nor does it move" 'vault: file not opened 34 (3)' "$(told "$program" migrate shop.db)"
 
@@ -162,7 +162,7 @@ wait "$service" 2> /dev/null || true
 service=
 answered=$(wc -l < before | tr -d ' ')
 step "a service that is killed at its 20th request or after had answered" '[1-9][0-9]' "$answered"
-start_service "$answered" shop.db
+must_serve --connections "$answered" shop.db
 : > after
 while read -r request answer; do
     echo "$request $(ask_token "$request")" >> after

@@ -32,7 +32,9 @@ done
 step "vault-look is in it" "$(holds grep -q ' ./usr/bin/vault-look$' inside)"
 # What a unit or one of its scripts calls is in it, and isn't among the documents, which an image may leave
 # out.
-sed -n 's#^Exec[A-Za-z]*=[+-]*\(/usr/[^ ]*\).*#\1#p' "$deploy"/*.service | grep /vault > called
+mkdir units
+step "the units are made" "$(holds sh "$deploy/units.sh" units)" "$(cat said)"
+sed -n 's#^Exec[A-Za-z]*=[+-]*\(/usr/[^ ]*\).*#\1#p' units/*.service | grep /vault > called
 for script in $(sed -n 's#^/usr/lib/vault/##p' called | sort -u); do
     grep -o '/usr/lib/vault/[a-z.-]*\|\$lib/[a-z.-]*' "$deploy/$script" | sed 's#^\$lib#/usr/lib/vault#' || :
 done >> called
@@ -46,12 +48,9 @@ step "its address can be written to" "$(if grep -qi noreply control; then echo n
 
 # The units, with programs that are there.
 mkdir unit
-for unit in vault vault-failed vault-backup vault-backup-failed vault@ vault-failed@ vault-backup@ \
-    vault-watch@ vault-exporter; do
-    sed -e "s#/usr/bin/vault#$program#" -e "s#/usr/lib/vault/#$PWD/lib/#" "$deploy/$unit.service" \
-        > "unit/$unit.service"
+for unit in units/*; do
+    sed -e "s#/usr/bin/vault#$program#" -e "s#/usr/lib/vault/#$PWD/lib/#" "$unit" > "unit/${unit##*/}"
 done
-cp "$deploy/vault-backup.timer" "$deploy/vault-backup@.timer" unit
 mkdir lib
 for name in $(sed -n 's#^/usr/lib/vault/##p' called | sort -u); do cp "$deploy/$name" lib; done
 if need systemd-analyze systemd; then
@@ -61,14 +60,14 @@ if need systemd-analyze systemd; then
     level=$(sed -n 's/.*exposure level.*: \([0-9.]*\) .*/\1/p' said)
     small=$(awk -v it="$level" 'BEGIN { print it != "" && it <= 1.5 ? "yes" : "no" }')
     step "its exposure is at most 1.5" "$small" "$level"
-    # one of several vaults has the same rules but for its name, its port and whom it tells
-    diff "$deploy/vault.service" "$deploy/vault@.service" | sed -n 's/^[<>] //p' | grep -v '^#' > differs || :
-    own='Description|OnFailure|Environment|EnvironmentFile|ExecStart|ExecStartPre|SocketBindAllow'
+    # one of several vaults has the same rules but for its name and its port
+    diff units/vault.service units/vault@.service | sed -n 's/^[<>] //p' | grep -v '^#' > differs || :
+    own='Description|Environment|EnvironmentFile|ExecStart|ExecStartPre|SocketBindAllow'
     own="$own|StateDirectory|RuntimeDirectory|AssertPathExists|RequiresMountsFor"
     grep -Evx "($own)=.*" differs > others || :
     step "one of several vaults has the same rules" "$([ -s others ] && echo no || echo yes)" "$(cat others)"
-    diff "$deploy/vault-backup.service" "$deploy/vault-backup@.service" | sed -n 's/^[<>] //p' |
-        grep -Ev '^(#.*|(Description|OnFailure|Environment|ExecStopPost)=.*)$' > others || :
+    diff units/vault-backup.service units/vault-backup@.service | sed -n 's/^[<>] //p' |
+        grep -Ev '^(#.*|(Description|Environment|ExecStopPost)=.*)$' > others || :
     step "so has a copy of one" "$([ -s others ] && echo no || echo yes)" "$(cat others)"
     systemd-analyze security --offline=yes unit/vault-backup.service > said
     level=$(sed -n 's/.*exposure level.*: \([0-9.]*\) .*/\1/p' said)

@@ -4,7 +4,5 @@
 # [PROGRAM] [FREEZES] [all]
 set -eu
 . "$(dirname "$0")/shared/begin.sh"
-wants_root "who boots a machine"
-wants debootstrap
-wants systemd-nspawn systemd-container
+wants_machine
 python3 -m units "$program" "$here/.." copies "$@"

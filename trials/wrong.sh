@@ -4,6 +4,7 @@
 # sh trials/wrong.sh [PROGRAM]
 set -eu
 . "$(dirname "$0")/shared/begin.sh"
+. "$here/shared/steps.sh"
 command -v rt > /dev/null || leave_out rt
 cp -r "$here/../crates" "$here/../crates.txt" "$here/../HANDLES" .
 # those that the gate itself tries are left out here
@@ -16,17 +17,9 @@ for bodies in "$here"/wrong/*; do
     crates="$crates $crate"
 done
 # shellcheck disable=SC2086
-rt ci $crates 2>&1 | tee said || :
-passed=0
-failed=0
+rt ci $crates 2>&1 | tee told || :
 for edit in "$here"/wrong/*/*.edit; do
-    bodies=${edit%/*}
-    if grep -qF "must-fail ${bodies##*/}/${edit##*/}: refused, as it must be" said; then
-        passed=$((passed + 1))
-    else
-        echo "FAILED ${bodies##*/}/${edit##*/}"
-        failed=$((failed + 1))
-    fi
+    name=${edit#"$here/wrong/"}
+    step "$name" "$(holds grep -qF "must-fail $name: refused, as it must be" told)"
 done
-echo "$passed passed, $failed failed"
-[ "$failed" -eq 0 ]
+counted

@@ -59,19 +59,23 @@ pause() {
     sleep 0.1 2> /dev/null || sleep 1
 }
 
-# Starts a service of so many connections over a file, on a free port, and waits for its line.
+# Starts a service by these words, on a free port, and waits until it says its port or has ended.
 start_service() {
-    : > listening
-    "$program" serve --connections "$1" --port 0 "$2" > listening 2> service.err &
+    "$program" serve "$@" > served 2> errors &
     service=$!
     port=
     tries=0
-    while [ -z "$port" ] && [ "$tries" -lt 100 ]; do
+    while [ -z "$port" ] && [ "$tries" -lt 100 ] && kill -0 "$service" 2> kill.err; do
         pause
-        port=$(sed -n 's/^listening \([0-9][0-9]*\)$/\1/p' listening)
+        port=$(sed -n 's/^listening \([0-9][0-9]*\)$/\1/p' served)
         tries=$((tries + 1))
     done
-    step "a service says its port" 'listening [0-9]*' "$(cat listening service.err)"
+}
+
+# The same of a service that has to listen, which is a step.
+must_serve() {
+    start_service "$@"
+    step "a service says its port" 'listening [0-9]*' "$(cat served errors)"
 }
 
 # Asks the service as a caller: the caller, the method, the target, and what else curl is to be told. Answers

@@ -116,7 +116,6 @@ def guarded(tally, front):
     both.forgeries(tally, front, token)
     guards.bodies(tally, port)
     guards.numbers(tally, port, token)
-    return token
 
 
 def main(program, repository):
@@ -125,7 +124,7 @@ def main(program, repository):
     with two_vaults(program) as vaults:
         first, second = vaults
         with contextlib.closing(Front(f"{repository}/deploy/nginx.conf", first, second)) as front:
-            token = guarded(tally, front)
+            guarded(tally, front)
             guards.health(tally, front, first)
             held.judge(tally, front.port, second)
             away(tally, front.port, first)

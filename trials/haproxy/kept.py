@@ -6,7 +6,6 @@ import subprocess
 from peers import kept
 from shared.ports import free_port, takes_connections
 from shared.runs import until
-from shared.tally import unlike
 
 CLIENTS, MESSAGES = 8, 15
 WORDS = """
@@ -51,12 +50,4 @@ def judge(tally, vault):
     """Eight clients with a message a second each: all are answered soon, over connections that stay open."""
     with Plain(vault) as front:
         clients = [kept.Client(front, 3000000 + 1000 * turn, MESSAGES, 1) for turn in range(CLIENTS)]
-        for client in clients:
-            client.start()
-        for client in clients:
-            client.join()
-    answered = sum(len(client.waited) for client in clients)
-    longest = max(max(client.waited, default=0) for client in clients)
-    tally.judge("through connections that stay open: all answered", unlike(answered, CLIENTS * MESSAGES))
-    tally.judge("within 2 s each", "" if longest <= 2 else f"{longest:.1f} s")
-    print(f"through connections that stay open: {longest:.2f} s at most", flush=True)
+        kept.judge(tally, "through connections that stay open", clients, MESSAGES)

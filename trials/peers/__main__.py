@@ -58,15 +58,7 @@ def crowd(program, tally):
     made(program, "crowd.db")
     with served(program, "crowd.db") as service:
         clients = [kept.Client(service, 1000 * turn, 15, 1) for turn in range(1, 9)]
-        for client in clients:
-            client.start()
-        for client in clients:
-            client.join()
-    answered = [len(client.waited) for client in clients]
-    longest = max(max(client.waited, default=0) for client in clients)
-    tally.judge("eight that keep their connections: all answered", unlike(answered, [15] * 8))
-    tally.judge("within 2 s each", "" if longest <= 2 else f"{longest:.1f} s")
-    print(f"eight that keep their connections: {longest:.2f} s at most", flush=True)
+        kept.judge(tally, "eight that keep their connections", clients, 15)
 
 
 def alone(program, tally):

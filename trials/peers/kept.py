@@ -4,6 +4,7 @@ import threading
 import time
 
 from peers.shop import asked, token_of
+from shared.tally import unlike
 
 
 class Client(threading.Thread):
@@ -46,3 +47,16 @@ class Client(threading.Thread):
             time.sleep(max(0, begun + self.pause - time.monotonic()))
         if self.peer:
             self.peer.close()
+
+
+def judge(tally, name, clients, many):
+    """Clients that run side by side, each of so many messages: all are answered soon."""
+    for client in clients:
+        client.start()
+    for client in clients:
+        client.join()
+    longest = max(max(client.waited, default=0) for client in clients)
+    answered = [len(client.waited) for client in clients]
+    tally.judge(f"{name}: all answered", unlike(answered, [many] * len(clients)))
+    tally.judge("within 2 s each", "" if longest <= 2 else f"{longest:.1f} s")
+    print(f"{name}: {longest:.2f} s at most", flush=True)

@@ -53,6 +53,13 @@ wants_root() {
     [ "$(id -u)" = 0 ] || leave_out "root, $1,"
 }
 
+# Leaves a trial out where no machine can be made and booted.
+wants_machine() {
+    wants_root "who boots a machine"
+    wants debootstrap
+    wants systemd-nspawn systemd-container
+}
+
 # Says which Python knows some modules.
 python_with() {
     for one in python3 /usr/bin/python3; do

@@ -18,7 +18,7 @@ MANY, DEAD, ROWS = 120_000, 10_000, 4000
 CHECKED, MOVED = 300, 500
 # How many bytes a token a service may keep once it listens, beside those that it has over a file with none.
 KEPT = 50
-UNIT = Path(__file__).parents[2] / "deploy/vault.service"
+UNIT = Path(__file__).parents[2] / "deploy/vault@.service"
 # How long a log may be, with the heads of its pages: it is copied back at 24,576,000 bytes of pages. In a
 # sweep that is the length of the file, which is greater here.
 LOG = 26_000_000
