@@ -25,8 +25,8 @@ place 755 "$program" /usr/bin/vault
 strip --strip-all "$root/usr/bin/vault"
 mkdir -p "$root/lib/systemd/system"
 sh "$here/units.sh" "$root/lib/systemd/system"
-for step in pause jumped room port listens answers watch thaw alarm counted moments newest backup-now backup.sh \
-    restore.sh again.sh exporter.py; do
+for step in pause jumped room port listens answers watch thaw alarm counted moments newest backup-now \
+    backup.sh restore.sh again.sh exporter.py; do
     place 755 "$here/$step" "/usr/lib/vault/$step"
 done
 place 755 "$here/vault-look" /usr/bin/vault-look

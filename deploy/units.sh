@@ -1,12 +1,12 @@
 #!/bin/sh
 # units.sh FOLDER
 #
-# Puts the units of an installation into FOLDER: those for several vaults as their files stand here, vault@ and
-# the others, and those for one, vault and the others, made of the same files. systemd starts no template
-# without an instance, and rejects a link from a plain name to a template, so one file can't be both.
+# Puts the units of an installation into FOLDER: the templates for several vaults, as vault@.service, and
+# those for one, as vault.service, which are made of the same files. systemd starts no template without an
+# instance, and rejects a link from a plain name to a template, so one file can't be both.
 #
-# Where the names of several vaults have an instance, those for one have nothing. A line behind `#one` stands
-# for one vault in place of the line before it.
+# Where a name for several vaults has the instance, the one for one vault has nothing. What follows `#one` is
+# for one vault, in place of the line above it.
 set -eu
 [ $# -eq 1 ] || { echo "units.sh FOLDER" >&2; exit 2; }
 here=$(cd "$(dirname "$0")" && pwd)

@@ -55,8 +55,8 @@ class Known:
         return self.rows.count(kind) + new - gone
 
     def outcomes(self, possible, command, moments, token):
-        """What a command may be answered by what is possible, and the changes after it, without doubles. Where
-        a token is new, it is this one."""
+        """What a command may be answered by what is possible, and the changes after it, without doubles. A
+        new token is this one."""
         candidates, found = [token] if token else [], []
         for changes in possible:
             seen = Changed(self.rows, changes)

@@ -8,8 +8,8 @@ from shared.tally import unlike
 
 
 class Client(threading.Thread):
-    """Sends so many messages, one each `pause` seconds. Where the service ended the connection before it answered
-    a message, the message goes over a new one, as its request number allows."""
+    """Sends so many messages, one each `pause` seconds. Where the service ended the connection before it
+    answered a message, the message goes over a new one, as its request number allows."""
 
     def __init__(self, service, first, count, pause):
         super().__init__()

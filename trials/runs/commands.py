@@ -238,8 +238,8 @@ TABLES = {
 
 
 def shops(program, folder):
-    """Shops by their names: new, for both uses, with the worked token, or unable to count another given number.
-    Each right has a caller of its name, who has no other."""
+    """Shops by their names: new, for both uses, with the worked token, or unable to count another given
+    number. Each right has a caller of its name, who has no other."""
     folder.mkdir()
     new = connections.made(program, folder / "new.db")
     shop.granted(program, new, {right: (right,) for right in RIGHTS}, now=1000)

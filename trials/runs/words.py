@@ -54,4 +54,5 @@ def judged(tally, program):
     case = Case(tally, program, "words that are no text are bad")
     case.judge("a byte", fault_of(run(program, NO_TEXT), 2, "", "vault: bad words\n"))
     case = Case(tally, program, "words without memory stop with 20")
-    case.judge("long words", fault_of(run(program, *LONG, preexec_fn=limit_memory), 4, "", "vault: stopped 20\n"))
+    ran = run(program, *LONG, preexec_fn=limit_memory)
+    case.judge("long words", fault_of(ran, 4, "", "vault: stopped 20\n"))

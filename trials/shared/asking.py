@@ -1,5 +1,5 @@
-"""Clients that ask a service on a port for tokens until their input ends. What came of it is printed as JSON. It
-is a program of its own, since it runs in a machine's network: python3 -m shared.asking PORT CALLERS"""
+"""Clients that ask a service on a port for tokens until their input ends. What came of it is printed as JSON.
+It is a program of its own, since it runs in a machine's network: python3 -m shared.asking PORT CALLERS"""
 
 import contextlib
 import json

@@ -1,7 +1,7 @@
 # What a trial begins with; the scripts of trials/ read it, and are called with the program as their first
 # argument. It finds the program and leaves the other arguments, makes a temporary folder that is removed at
-# the end, and lets Python find the packages of trials/ without leaving anything beside them. What a trial needs
-# beyond the kit is said by functions below.
+# the end, and lets Python find the packages of trials/ without leaving anything beside them. What a trial
+# needs beyond the kit is said by functions below.
 here=$(cd "$(dirname "$0")" && pwd)
 . "$here/../examples/shared/program.sh"
 [ $# -eq 0 ] || shift
@@ -25,8 +25,8 @@ PYTHONPATH=$here
 TMPDIR=$folder
 export PYTHONDONTWRITEBYTECODE PYTHONPATH TMPDIR
 
-# Whether a command is there, or could be installed from a package of Debian's. Of trials that run side by side
-# one installs at a time; what they lock is a folder that they share.
+# Whether a command is there, or could be installed from a package of Debian's. Of trials that run side by
+# side one installs at a time; what they lock is a folder that they share.
 need() {
     command -v "$1" > /dev/null && return 0
     [ "$(id -u)" = 0 ] || return 1

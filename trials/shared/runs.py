@@ -55,7 +55,7 @@ class Ran(NamedTuple):
 
 
 class Limit(threading.Timer):
-    """Kills a process that isn't over in time; `came` says whether it did. The limit is over with a `with`."""
+    """Kills a process that isn't over in time, where a `with` isn't; `came` says whether it did."""
 
     def __init__(self, process, seconds=SECONDS):
         super().__init__(seconds, self.come)

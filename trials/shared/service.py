@@ -12,16 +12,16 @@ LISTENING = re.compile(rb"listening ([0-9]+)\n")
 
 
 def port_of(process, seconds=SECONDS):
-    """The port of a service that was just started, by the line that it says; None where it says another one, or
-    none in that time."""
+    """The port of a service that was just started, by the line that it says; None where it says another line,
+    or none in time."""
     with Limit(process, seconds):
         found = LISTENING.fullmatch(process.stdout.readline())
     return int(found[1]) if found else None
 
 
 class Service:
-    """The program as it serves by these words, on a free port where they name none; it is over at the end of a
-    `with`. `more` goes to its environment. Its errors are kept, or go to this place."""
+    """The program as it serves by these words, on a free port where they name none; it is over with a `with`.
+    `more` goes to its environment. Its errors are kept, or go to another place."""
 
     def __init__(self, program, *words, more=None, errors=subprocess.PIPE):
         self.process = subprocess.Popen(

@@ -56,7 +56,8 @@ def logs(program, tally):
 def allocator():
     """The allocator that the unit loads, and what it tells it."""
     told = [line.removeprefix("Environment=").split("=", 1) for line in UNIT.read_text().splitlines()]
-    return {name: value for name, *values in told for value in values if name in ("LD_PRELOAD", "MALLOC_CONF")}
+    wanted = ("LD_PRELOAD", "MALLOC_CONF")
+    return {name: value for name, *values in told for value in values if name in wanted}
 
 
 def kept(program, file):
