@@ -12,13 +12,13 @@ import multiprocessing
 import os
 import subprocess
 import sys
-import threading
 import time
 
 from front import certificates
 from front.clients import Client
 from front.services import Vault
 from haproxy.services import Front
+from shared.runs import at_once
 
 LASTING = float(os.environ.get("LASTING", "5"))
 CLIENTS = int(os.environ.get("CLIENTS", "16"))
@@ -67,17 +67,9 @@ def till(port, place, ends, queue):
     """All clients of one till, in a process of their own; how many tokens they got."""
     counts = []
     name, merchant = f"till-{place}", f"shop{place}"
-    firsts = range(1, CLIENTS + 1)
-    threads = [
-        threading.Thread(
-            target=connection, args=(port, name, merchant, range(it, 10**9, CLIENTS), ends, counts)
-        )
-        for it in firsts
-    ]
-    for thread in threads:
-        thread.start()
-    for thread in threads:
-        thread.join()
+    requests = [range(it, 10**9, CLIENTS) for it in range(1, CLIENTS + 1)]
+    with at_once(connection, [(port, name, merchant, it, ends, counts) for it in requests]):
+        pass
     queue.put(counts)
 
 

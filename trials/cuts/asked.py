@@ -10,6 +10,7 @@ import threading
 from kills.jobs import HEADER, line_reply, rows_of
 from kills.shop import clock
 from shared.commands import message, row, whole_answers
+from shared.runs import at_once
 from shared.service import Service
 
 CALLERS = {"shop1": "till-1", "shop2": "till-2"}
@@ -99,14 +100,8 @@ def side_by_side(story, disk, connect, merchants, many):
     """Clients at these merchants, who have ended when a `with` is over; the lock of what they tell."""
     story.several, lock = True, threading.Lock()
     clients = [Client(story, disk, connect, it, many) for it in merchants]
-    threads = [threading.Thread(target=it.work, args=(lock,)) for it in clients]
-    for thread in threads:
-        thread.start()
-    try:
+    with at_once(Client.work, [(it, lock) for it in clients]):
         yield lock
-    finally:
-        for thread in threads:
-            thread.join()
 
 
 def serve(story, disk, path, many, more):

@@ -51,7 +51,7 @@ def older(version):
     def before(shop):
         shop.furnish()
         faults = jobs.dying(shop, 25)
-        jobs.lowered(shop, version)
+        shop.lower(version)
         return faults
 
     return before

@@ -6,9 +6,7 @@ from kills.asked import Run
 from kills.shop import clock
 from model.rules import DONE
 from model.vault import RIGHTS, Command
-from shared import rows
 from shared.commands import row
-from shared.files import removed
 from shared.runs import run as run_whole
 
 LATER = 90_000
@@ -91,15 +89,6 @@ def sweep(story, disk, path, _, more):
     story.again = lambda shop: killed.sweep_again(shop, "shop2", now)
     line = f"purged {len(purges)}\n".encode()
     job(story, disk, ("sweep", "--now", now, path, "back", "shop2"), line, purges, now, more)
-
-
-def lowered(shop, version):
-    """Writes the shop's file anew in an older schema."""
-    _, found = rows.read(shop.path)
-    found = rows.lowered(found, version)
-    removed(shop.path)
-    rows.write(shop.path, found, version)
-    shop.known.reset(found)
 
 
 def migrate(story, disk, path, _, more):

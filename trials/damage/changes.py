@@ -100,18 +100,13 @@ CHANGES = (
 )
 
 
-def said(ran):
-    """The line of a check, without what each has."""
-    return ran.told.removeprefix("file not opened ") or ran.out.decode("ascii", "replace").strip()
-
-
 def fault_of(program, file, wanted):
     """What is wrong with what `check` says of a changed file, and with whether it opens."""
     ran = run(program, "check", file)
-    if ran.broke or said(ran) != wanted:
+    if ran.broke or ran.said != wanted:
         return f"wanted {wanted}, but came {ran}"
     opened = run(program, "pipe", file)
-    if said(opened) != ("" if wanted.startswith("sound") else wanted):
+    if opened.said != ("" if wanted.startswith("sound") else wanted):
         return f"a check says {wanted}, but opened it is {opened}"
     ruled = rules.least_broken(found) if (found := rows.read(file)) else None
     if wanted.startswith("31 ") and ruled != int(wanted[3:]):

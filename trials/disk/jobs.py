@@ -4,7 +4,7 @@ from typing import NamedTuple
 
 from disk.grounds import HEADER, NOW, Ground
 from model.cards import completed
-from model.vault import RIGHTS, Command
+from model.vault import RIGHTS, Command, Rows, sound
 from shared.commands import line_answer, message, row, whole_answers
 from shared.runs import run
 from shared.service import Service, sent
@@ -131,13 +131,12 @@ def all_jobs(small, long, older, folder):
     grant = Command("grant", "c1", "shop1", given="audit", ends=NOW + 60)
     withdraw = Command("withdraw", "back", "shop1", given="detokenize")
     serve = ("serve", "--connections", len(commands))
-    sizes = " ".join(str(sum(key[0] == it for key in small.found)) for it in ("merchant", "entry", "record"))
     yield single("made", None, set_it, ("shop1", 60, 60), lives)
     yield single("merchant", small, set_it, ("shop1", 60, 60), lives)
     until = ("grant", "--now", NOW, "--until", NOW + 60)
     yield single("grant", small, until, ("c1", "shop1", "audit"), grant)
     yield single("withdraw", small, ("withdraw", "--now", NOW), ("back", "shop1", "detokenize"), withdraw)
-    yield Job("check", small, ("check",), (), b"", (), 0, f"sound {sizes}\n")
+    yield Job("check", small, ("check",), (), b"", (), 0, sound(Rows(small.found).count).decode())
     yield Job("pipe", small, ("pipe", "--now", NOW + 1), (), given, commands, 63, "messages")
     yield Job("serve", small, serve, (), b"", commands, 63, "connections")
     yield batch("batch", small, asked_rows(100, 12))

@@ -7,6 +7,7 @@ from disk.jobs import read_answers, run_job
 from model.cards import hidden
 from model.known import Known
 from model.rules import DONE
+from model.vault import sound
 from shared import rows
 from shared.runs import run
 
@@ -113,10 +114,9 @@ class Case:
     def judge_sound(self):
         """The check says so, with as many rows, and no other file is left. Where the file isn't there its
         second name may be, which the next job takes away: a check makes nothing."""
-        sizes = " ".join(str(self.known.count(it)) for it in ("merchant", "entry", "record"))
-        checked = run(self.program, "check", self.path)
-        if checked.out != f"sound {sizes}\n".encode():
-            self.faults.append(f"check: {checked}, not {sizes}")
+        checked, wanted = run(self.program, "check", self.path), sound(self.known.count)
+        if checked.out != wanted:
+            self.faults.append(f"check: {checked}, not {wanted}")
         names = {it.name for it in self.path.parent.iterdir()}
         known = {self.path.name, self.path.name + "-wal"}
         if not self.path.exists():

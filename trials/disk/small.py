@@ -10,7 +10,7 @@ from disk.grounds import HEADER
 from model.cards import completed, hidden
 from model.known import Known
 from model.rules import DONE
-from model.vault import Command
+from model.vault import Command, sound
 from shared import messages, rows
 from shared.commands import line_answer, message, reply, row, whole_answers
 from shared.runs import run
@@ -100,9 +100,8 @@ class Small:
         self.give(ROOM)
         ran, left = self.ask(kind, left[:5])
         self.judge(f"{place}: {kind} with room", "" if ran.status == 0 and not left else str(ran), "goes on")
-        sizes = " ".join(str(self.known.count(it)) for it in ("merchant", "entry", "record"))
-        checked = run(self.program, "check", self.path)
-        fault = "" if checked.out == f"sound {sizes}\n".encode() else f"{checked}, not {sizes}"
+        checked, wanted = run(self.program, "check", self.path), sound(self.known.count)
+        fault = "" if checked.out == wanted else f"{checked}, not {wanted}"
         self.judge(f"{place}: check with room", fault, "sound")
 
     def judge_again(self, place):

@@ -5,13 +5,12 @@ import json
 import os
 import signal
 import ssl
-import threading
 import time
 
 from front.clients import NUMBER, Client
 from shared import lines
 from shared.ports import has_ipv6
-from shared.runs import until
+from shared.runs import at_once, until
 from shared.tally import unlike
 
 TOKENS = "/v1/merchants/shop1/tokens"
@@ -174,13 +173,9 @@ def numbers(tally, port, token):
     def one():
         statuses.append(Client(port, "back").ask("POST", f"{TOKENS}/{token}/number").status)
 
-    threads = [threading.Thread(target=one) for _ in range(AT_ONCE)]
-    for thread in threads:
-        thread.start()
-    seen = Client(port, "back").ask("GET", "/v1/merchants/shop1/audit").status
-    tally.judge("other requests go on meanwhile", unlike(seen, 200))
-    for thread in threads:
-        thread.join()
+    with at_once(one, [()] * AT_ONCE):
+        seen = Client(port, "back").ask("GET", "/v1/merchants/shop1/audit").status
+        tally.judge("other requests go on meanwhile", unlike(seen, 200))
     given = statuses.count(200)
     tally.judge(f"of {AT_ONCE} numbers at once some 21 are given", "" if 21 <= given <= 27 else f"{given}")
     tally.judge("and the others refused", unlike(statuses.count(429), AT_ONCE - given))

@@ -4,6 +4,7 @@ import threading
 import time
 
 from front.clients import Client
+from shared.runs import at_once
 
 CLIENTS = 32
 MESSAGES = 2000
@@ -45,15 +46,12 @@ class Load:
         """Sends all messages, whose numbers begin with the first, and ends the vault so many times in the
         midst: by a kill, where nothing else is said."""
         last = first + MESSAGES - 1
-        clients = range(first, first + CLIENTS)
-        threads = [threading.Thread(target=self.client, args=(it, last)) for it in clients]
-        for thread in threads:
-            thread.start()
-        for turn in range(1, ends + 1):
-            while len(self.tokens) < MESSAGES * turn // (ends + 1) and any(it.is_alive() for it in threads):
-                time.sleep(0.01)
-            (by or vault.kill)()
-            time.sleep(0.3)
-            vault.start()
-        for thread in threads:
-            thread.join()
+        shares = [(it, last) for it in range(first, first + CLIENTS)]
+        with at_once(self.client, shares) as threads:
+            for turn in range(1, ends + 1):
+                part = MESSAGES * turn // (ends + 1)
+                while len(self.tokens) < part and any(it.is_alive() for it in threads):
+                    time.sleep(0.01)
+                (by or vault.kill)()
+                time.sleep(0.3)
+                vault.start()

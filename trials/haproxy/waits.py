@@ -6,6 +6,7 @@ import time
 from front import both
 from front.clients import Client
 from front.load import MESSAGES, Load
+from shared.runs import at_once
 from shared.tally import unlike
 
 # how long a vault is away at most, and what a wait may take beyond that
@@ -84,15 +85,10 @@ def crowded(tally, port, vault):
         answer = Client(port, caller, address=address).ask("GET", "/v1/merchants/shop1/audit")
         statuses.append((caller, answer.status))
 
-    threads = [threading.Thread(target=one, args=("guest", ADDRESSES[it % 2])) for it in range(CROWD)]
-    for thread in threads:
-        thread.start()
-    time.sleep(4)
-    beside = threading.Thread(target=one, args=("back", None))
-    beside.start()
-    vault.start()
-    for thread in (*threads, beside):
-        thread.join()
+    with at_once(one, [("guest", ADDRESSES[it % 2]) for it in range(CROWD)]):
+        time.sleep(4)
+        with at_once(one, [("back", None)]):
+            vault.start()
     many = statuses.count(("guest", 429))
     tally.judge("some of a crowd are refused", "" if 0 < CROWD - many <= 256 else f"{many} of {CROWD}")
     tally.judge("and the others answered", unlike(statuses.count(("guest", 403)), CROWD - many))

@@ -1,7 +1,6 @@
 """Files that are killed while they move to the newest schema, and while they are made."""
 
 from kills.jobs import killed_job
-from shared import rows
 from shared.files import removed
 from shared.runs import run as run_whole
 
@@ -9,11 +8,7 @@ from shared.runs import run as run_whole
 def migrate(shop, aims):
     """The shop's file is written anew in an older schema, and moves; killed, it moves again later."""
     version = shop.random.choice((1, 1, 2, 3))
-    _, found = rows.read(shop.path)
-    found = rows.lowered(found, version)
-    removed(shop.path)
-    rows.write(shop.path, found, version)
-    shop.known.reset(found)
+    shop.lower(version)
     run = killed_job(shop, aims, "migrate", ("migrate", shop.path), b"schema 4\n")
     run.least = 4 if run.ended else version
     return run

@@ -5,7 +5,7 @@ import sqlite3
 from kills import files
 from kills.shop import clock
 from model.cards import hidden
-from model.vault import Command
+from model.vault import Command, sound
 from shared import messages, rows
 from shared.commands import message, reply
 from shared.runs import run as run_whole
@@ -65,9 +65,8 @@ class Judge:
 
     def judge_sound(self, shop):
         """The check finds the file sound, with as many rows."""
-        checked = run_whole(shop.program, "check", shop.path)
-        sizes = " ".join(str(shop.known.count(it)) for it in ("merchant", "entry", "record"))
-        fault = "" if checked.out == f"sound {sizes}\n".encode() else f"check: {checked}, not {sizes}"
+        checked, wanted = run_whole(shop.program, "check", shop.path), sound(shop.known.count)
+        fault = "" if checked.out == wanted else f"check: {checked}, not {wanted}"
         self.check(fault, "check says sound")
 
     def judge_again(self, shop, run):

@@ -9,6 +9,7 @@ from model.known import Known
 from model.rules import DONE, state
 from model.vault import MULTI, RIGHTS, SINGLE, Command
 from shared import rows
+from shared.files import removed
 from shared.runs import must
 from shared.shop import made
 
@@ -63,6 +64,14 @@ class Shop:
         _, found = rows.read(self.path)
         lost = self.known.settle([], [], found) is None
         return f"rows: {self.known.differing(found)} differ" if lost else ""
+
+    def lower(self, version):
+        """Writes the file anew in an older schema."""
+        _, found = rows.read(self.path)
+        found = rows.lowered(found, version)
+        removed(self.path)
+        rows.write(self.path, found, version)
+        self.known.reset(found)
 
     def merchant(self):
         return self.random.choice(list(MERCHANTS))

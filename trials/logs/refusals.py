@@ -3,13 +3,12 @@
 import json
 import os
 import re
-import threading
 
 from front import certificates
 from front.clients import NUMBER, Client
 from front.raw import answer, message
 from shared import lines
-from shared.runs import until
+from shared.runs import at_once, until
 from shared.tally import unlike
 
 TOKENS = "/v1/merchants/shop1/tokens"
@@ -110,11 +109,8 @@ def crowded(tally, front, port, token):
         fields = {"X-Vault-Reference": "the crowd"}
         statuses.append(Client(port, "back").ask("POST", f"{TOKENS}/{token}/number", **fields).status)
 
-    threads = [threading.Thread(target=one) for _ in range(AT_ONCE)]
-    for thread in threads:
-        thread.start()
-    for thread in threads:
-        thread.join()
+    with at_once(one, [()] * AT_ONCE):
+        pass
     many = statuses.count(429)
     wanted = {"caller": "back", "merchant": "shop1", "token": f"****{token[-4:]}", "asked": "detokenize"}
 

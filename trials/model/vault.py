@@ -56,6 +56,11 @@ class Command(NamedTuple):
     lives: tuple = ()
 
 
+def sound(count):
+    """The line of a check that finds so many rows of each kind."""
+    return "sound {} {} {}\n".format(*map(count, ("merchant", "entry", "record"))).encode()
+
+
 class Rows:
     """The rows of a vault by their keys, and the tokens of each number."""
 

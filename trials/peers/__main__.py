@@ -8,7 +8,7 @@ import time
 
 from peers import kept, slow
 from peers.shop import asked, expires_of, made, served, token_of
-from shared.runs import must, run
+from shared.runs import at_once, must, run
 from shared.tally import Tally, unlike
 
 # A peer, and after how many seconds another one has its answer, at least and at most.
@@ -173,11 +173,8 @@ def main(program):
     tally = Tally()
     for part in (patience, tokens, moments, address, unchecked, ended, idlers, crowd, alone):
         part(program, tally)
-    threads = [threading.Thread(target=behind, args=(program, tally, *pair)) for pair in PEERS]
-    for thread in threads:
-        thread.start()
-    for thread in threads:
-        thread.join()
+    with at_once(behind, [(program, tally, *pair) for pair in PEERS]):
+        pass
     tally.end()
 
 

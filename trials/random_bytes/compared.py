@@ -4,6 +4,7 @@ import random
 import re
 import time
 
+from model.vault import sound
 from random_bytes import cuttings, grounds
 from random_bytes.streams import Maker
 from reader.answers import Due, hidden
@@ -81,9 +82,9 @@ def piped(stream, name, cut):
     checked = run(ground.program, "check", file) if name == "in one piece" else Ran(0, b"", b"")
     removed(file)
     fault = fault_of(ran, stream.due)
-    sizes = tuple(map(stream.after.count, ("merchant", "entry", "record")))
-    if not fault and checked.out and checked.out != b"sound %d %d %d\n" % sizes:
-        fault = f"the file after it: {checked}, and {sizes} is due"
+    due = sound(stream.after.count)
+    if not fault and checked.out and checked.out != due:
+        fault = f"the file after it: {checked}, and {due} is due"
     return ran, fault
 
 

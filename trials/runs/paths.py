@@ -131,25 +131,20 @@ DAMAGES = (
 )
 
 
-def said(ran):
-    """What a run says, without the words of a file that isn't opened."""
-    return ran.told.removeprefix("file not opened ") or ran.out.decode("ascii", "replace").strip()
-
-
 def opened(program, name):
-    return said(run(program, "pipe", name)) or "opened"
+    return run(program, "pipe", name).said or "opened"
 
 
 def checked(program, name):
-    return said(run(program, "check", name))
+    return run(program, "check", name).said
 
 
 def moved(program, name):
-    return said(run(program, "migrate", name))
+    return run(program, "migrate", name).said
 
 
 def set_up(program, name):
-    return said(run(program, "merchant", "--now", 1000, name, "shop1", 60, 0))
+    return run(program, "merchant", "--now", 1000, name, "shop1", 60, 0).said
 
 
 def refused(program, name):

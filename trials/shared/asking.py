@@ -10,6 +10,7 @@ import time
 
 from model.cards import completed
 from shared.messages import NoAnswer, first_answer, order, token_asked
+from shared.runs import at_once
 from shared.service import sent
 
 # how long one request is asked again, and after which pause
@@ -56,13 +57,9 @@ class Asking:
                 self.tokens[caller, request] = token
 
     def run(self):
-        threads = [threading.Thread(target=self.work, args=(it,)) for it in range(1, self.callers + 1)]
-        for thread in threads:
-            thread.start()
-        sys.stdin.read()
-        self.stopped.set()
-        for thread in threads:
-            thread.join()
+        with at_once(self.work, [(it,) for it in range(1, self.callers + 1)]):
+            sys.stdin.read()
+            self.stopped.set()
 
     def asked_again(self):
         """The requests that aren't answered their first token when they are asked once more."""

@@ -1,6 +1,7 @@
 """One run of the program: its words, its input, a time limit, and how it ended."""
 
 import concurrent.futures
+import contextlib
 import os
 import subprocess
 import threading
@@ -36,6 +37,11 @@ class Ran(NamedTuple):
         for note in NOTES:
             ending = ending.removesuffix(note)
         return ending.decode("ascii", "replace").strip().removeprefix("vault: ")
+
+    @property
+    def said(self):
+        """The line that it says, without the words of a file that isn't opened."""
+        return self.told.removeprefix("file not opened ") or self.out.decode("ascii", "replace").strip()
 
     def is_like(self, other):
         """Whether both ended alike, and wrote the same."""
@@ -103,6 +109,19 @@ def until(holds, seconds=10):
             return False
         time.sleep(0.05)
     return True
+
+
+@contextlib.contextmanager
+def at_once(work, items):
+    """Does a work by each item's words, each on a thread of its own, beside a `with`, which waits for them."""
+    threads = [threading.Thread(target=work, args=words) for words in items]
+    for thread in threads:
+        thread.start()
+    try:
+        yield threads
+    finally:
+        for thread in threads:
+            thread.join()
 
 
 def side_by_side(work, items):

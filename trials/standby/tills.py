@@ -11,6 +11,7 @@ import time
 
 from front.clients import Client
 from model.cards import completed
+from shared.runs import at_once
 from standby.nodes import FRONT, TILLS
 
 PORT = 8443
@@ -126,11 +127,8 @@ class Tills:
         def of(till):
             counts.append(self.again(till, before))
 
-        works = [threading.Thread(target=of, args=(it,)) for it in self.all]
-        for work in works:
-            work.start()
-        for work in works:
-            work.join()
+        with at_once(of, [(it,) for it in self.all]):
+            pass
         return sum(counts), len(self.lost) - lost
 
     def first_after(self, moment):
