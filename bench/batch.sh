@@ -2,12 +2,9 @@
 # Times a batch of rows by the program, and by Python's csv and sqlite3, in turn. sh bench/batch.sh [PROGRAM]
 # N is how many rows the batch has, and ROUNDS how often each side is timed.
 set -eu
-here=$(cd "$(dirname "$0")" && pwd)
+. "$(dirname "$0")/begin.sh"
 . "$here/../examples/shared/program.sh"
-if ! command -v python3 > /dev/null; then
-    echo "python3 is missing" >&2
-    exit 1
-fi
+needs python3
 
 # What the figures depend on beside the machine's load, which stands with them.
 cores=$(getconf _NPROCESSORS_ONLN)

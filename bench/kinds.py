@@ -11,7 +11,6 @@ these are set apart.
 import pathlib
 import re
 import shutil
-import socket
 import subprocess
 import sys
 import tempfile
@@ -22,7 +21,7 @@ import figures  # noqa: E402, without leaving a folder of its bytecode here
 import pipe  # noqa: E402
 import settings  # noqa: E402
 from model import cards  # noqa: E402, which settings lets Python find
-from shared.service import port_of  # noqa: E402
+from shared.service import connected, port_of  # noqa: E402
 from sides import told  # noqa: E402
 
 # a service has the system clock, so the tokens that stand before it have to be of today
@@ -123,8 +122,7 @@ class Counter:
         """The same by a service with one connection that is kept, a message once its answer is there."""
         process = self.watched("serve", "--connections", 1, "--port", 0, self.copy())
         port = port_of(process, SECONDS)
-        with socket.create_connection(("127.0.0.1", port), timeout=SECONDS) as peer:
-            peer.setsockopt(socket.IPPROTO_TCP, socket.TCP_NODELAY, 1)
+        with connected(port, SECONDS) as peer:
             for one in asked:
                 peer.sendall(one)
                 assert b" 200 OK" in peer.recv(4096)

@@ -4,7 +4,7 @@
 # program where they are built already. An empty ALONE leaves the vault alone out, and vault_bench isn't built.
 # N, BEFORE, CHECKED, COUNTED and ROUNDS are run.py's.
 set -eu
-here=$(cd "$(dirname "$0")" && pwd)
+. "$(dirname "$0")/begin.sh"
 program=${PROGRAM:-}
 vault=${VAULT:-}
 same=
@@ -12,13 +12,7 @@ crates='sql_tables vault_refusal vault_pan vault_core vault_rules vault_store va
 crates="$crates vault_steps vault_sql vault_verdict vault_recover vault_migrate vault_blank"
 crates="$crates vault_file"
 
-for tool in python3 /usr/bin/time; do
-    command -v "$tool" > /dev/null || { echo "$tool is missing" >&2; exit 1; }
-done
-
-folder=$(mktemp -d)
-trap 'rm -rf "$folder"' EXIT
-trap 'exit 1' HUP INT TERM
+needs python3 /usr/bin/time
 
 # vault_bench is built with copies of the crates that it stands on, and is none of the repository's: the gate
 # doesn't wait for it. What their own checks kept is copied too, and saves its time.

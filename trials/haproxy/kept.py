@@ -1,11 +1,11 @@
 """A front of few words before a vault, which keeps its connections to it as HAProxy does by itself."""
 
-import socket
 import subprocess
 
 from peers import kept
 from shared.ports import free_port, takes_connections
 from shared.runs import until
+from shared.service import connected
 
 CLIENTS, MESSAGES = 8, 15
 WORDS = """
@@ -43,7 +43,7 @@ class Plain:
 
     def connect(self):
         """A connection of a client."""
-        return socket.create_connection(("127.0.0.1", self.port), timeout=30)
+        return connected(self.port)
 
 
 def judge(tally, vault):

@@ -1,13 +1,12 @@
 """Messages to a program that is killed among them: to a service, and in a pipe."""
 
 import os
-import socket
 
 from kills.shop import clock
 from kills.stopped import Stopped
 from shared.commands import message, whole_answers
 from shared.runs import SECONDS
-from shared.service import port_of
+from shared.service import connected, port_of
 
 MOST = 120
 
@@ -49,8 +48,7 @@ class Connection:
     """A connection to a service."""
 
     def __init__(self, port):
-        self.peer = socket.create_connection(("127.0.0.1", port), timeout=40)
-        self.peer.setsockopt(socket.IPPROTO_TCP, socket.TCP_NODELAY, 1)
+        self.peer = connected(port, 40)
 
     def send(self, text):
         self.peer.sendall(text)

@@ -19,6 +19,13 @@ def port_of(process, seconds=SECONDS):
     return int(found[1]) if found else None
 
 
+def connected(port, seconds=SECONDS):
+    """A new connection, of which each write is a piece of its own."""
+    peer = socket.create_connection(("127.0.0.1", port), timeout=seconds)
+    peer.setsockopt(socket.IPPROTO_TCP, socket.TCP_NODELAY, 1)
+    return peer
+
+
 class Service:
     """The program as it serves by these words, on a free port where they name none; it is over with a `with`.
     `more` goes to its environment. Its errors are kept, or go to another place."""
@@ -53,10 +60,8 @@ class Service:
             pipe.close()
 
     def connect(self):
-        """A new connection, of which each write is a piece of its own."""
-        peer = socket.create_connection(("127.0.0.1", self.port), timeout=SECONDS)
-        peer.setsockopt(socket.IPPROTO_TCP, socket.TCP_NODELAY, 1)
-        return peer
+        """A new connection."""
+        return connected(self.port)
 
     def ended(self):
         """How it ended, or that it didn't."""
@@ -104,5 +109,5 @@ def received(peer):
 
 def sent(port, text, seconds=SECONDS):
     """Sends bytes over a connection of their own, and answers all that comes back."""
-    with socket.create_connection(("127.0.0.1", port), timeout=seconds) as peer:
+    with connected(port, seconds) as peer:
         return send(peer, [text])
