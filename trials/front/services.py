@@ -34,7 +34,16 @@ class Vault:
     def start(self):
         """Starts it as the unit does: without a number of connections."""
         self.service = must_serve(self.program, "--port", self.port, *self.listed, self.file)
-        self.process, self.stop, self.kill = self.service.process, self.service.stop, self.service.kill
+
+    def stop(self):
+        self.service.stop()
+
+    def kill(self):
+        self.service.kill()
+
+    @property
+    def process(self):
+        return self.service.process
 
     def list(self, rights):
         """From its next start on its rights are those of a rights file with this text, and no others."""
