@@ -3,7 +3,6 @@ breaks. Digits, sums and moments are worked out by hand. No key stands twice, si
 
 Below a base, each line has edits as shared/laid.py makes them, and the rule behind ` = `."""
 
-from damage.changes import said
 from shared import laid
 from shared.runs import run, side_by_side
 from shared.tally import unlike
@@ -217,7 +216,7 @@ def least(program, file, base, edits):
     """The least rule that a file breaks by these edits of a base, as a check says."""
     every = edits if base == "no rows" else f"{base}; {edits}"
     laid.make(file, every.replace("sound", SOUND))
-    told = said(run(program, "check", file))
+    told = run(program, "check", file).said
     return "none" if told.startswith("sound ") else told.removeprefix("31 ")
 
 

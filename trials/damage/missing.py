@@ -3,7 +3,6 @@
 import sqlite3
 
 from damage import base
-from damage.changes import said
 from shared import rows
 from shared.files import copied
 from shared.runs import run
@@ -46,6 +45,6 @@ def try_all(program, folder, tally):
             conn.execute(f"DROP TABLE {table}")
             conn.execute("PRAGMA wal_checkpoint(TRUNCATE)")
             conn.close()
-            told = tuple(said(run(program, job, file)) for job in ("check", "migrate"))
+            told = tuple(run(program, job, file).said for job in ("check", "migrate"))
             name = f"schema {version} without {table}"
             tally.judge(name, unlike(told, (checked, moved)), "files without a table")
