@@ -30,10 +30,13 @@ for name in examples/nginx.conf examples/certificates.sh examples/rebuild.sh exa
     step "$name is in it" "$(holds grep -q " ./usr/share/vault/$name\$" inside)"
 done
 step "vault-look is in it" "$(holds grep -q ' ./usr/bin/vault-look$' inside)"
-# What a unit or one of its scripts calls is in it, and isn't among the documents, which an image may leave
-# out.
+# The units that are in it.
 mkdir units
 step "the units are made" "$(holds sh "$deploy/units.sh" units)" "$(cat said)"
+left=$(grep '%i\|^#one' units/vault.service units/vault-backup.service units/vault-backup.timer || :)
+step "those for one vault name no instance" "$([ -z "$left" ] && echo yes || echo no)" "$left"
+# What a unit or one of its scripts calls is in it, and isn't among the documents, which an image may leave
+# out.
 sed -n 's#^Exec[A-Za-z]*=[+-]*\(/usr/[^ ]*\).*#\1#p' units/*.service | grep /vault > called
 for script in $(sed -n 's#^/usr/lib/vault/##p' called | sort -u); do
     grep -o '/usr/lib/vault/[a-z.-]*\|\$lib/[a-z.-]*' "$deploy/$script" | sed 's#^\$lib#/usr/lib/vault#' || :
