@@ -1,6 +1,6 @@
 -- The counts of numbers given and denied follow the replies.
-use Rattle.std.proofs.Common.{◌≡◌, ℕ, ◌+◌, ◌==◌, ◌&&◌, Bool, true, false, cond, Option, Some, None, List}
-use Rattle.std.proofs.Common.{[], ◌∷◌, not, nat_lt, inl, inr, refl, sym, ap, ◌∙◌, subst, arith, add-zero}
+use Rattle.std.proofs.Common.{◌≡◌, ℕ, ◌+◌, ◌==◌, ◌&&◌, Bool, true, false, cond, Option, Some, None, List, []}
+use Rattle.std.proofs.Common.{◌∷◌, not, nat_lt, inl, inr, refl, sym, ap, ◌∙◌, subst, arith, add-zero}
 use Rattle.std.specs.Option.{option_map_or}
 use Rattle.std.specs.FinMap as map
 use Rattle.std.specs.Cmp.{eq_by_cmp_equiv}
@@ -10,25 +10,23 @@ use Rattle.vault_core.specs.Keys.{Bytes, bytes_cmp}
 use Rattle.vault_core.specs.Lives.{new_merchant, setting, with_lives}
 use Rattle.vault_core.specs.Merchants.{granting, withdrawal, set_from, set_to}
 use Rattle.vault_core.specs.Parts.{token_command, command_of}
-use Rattle.vault_core.specs.Named.{merchant_of, denies}
+use Rattle.vault_core.specs.Named.{merchant_of, denies, is_redeem}
 use Rattle.vault_core.specs.Outcome.{Outcome, plain_reply, plain_refusal, on_token}
 use Rattle.vault_core.specs.Redeem.{merchant_after_gift, merchant_after_denial}
-use Rattle.vault_core.specs.Refusals.{no_merchant, no_right, full}
-use Rattle.vault_core.specs.Refusals.{token_purged, still_live, too_many_merchants}
+use Rattle.vault_core.specs.Refusals.{no_merchant, no_right, full, token_purged, still_live}
+use Rattle.vault_core.specs.Refusals.{too_many_merchants}
 use Rattle.vault_core.specs.Retire.{retirement, purging}
 use Rattle.vault_core.specs.Runs.{run}
 use Rattle.vault_core.specs.Show.{showing, totals}
-use Rattle.vault_core.specs.Table.{outcome, after}
-use Rattle.vault_core.specs.Tokens.{token_again, new_token}
-use Rattle.vault_core.specs.Tokens.{tokenize}
-use Rattle.vault_core.specs.Vault.{Vault, Merchant, merchant_at, entitled, made_count}
-use Rattle.vault_core.specs.Vault.{time_at}
+use Rattle.vault_core.specs.Table.{outcome, after, reply}
+use Rattle.vault_core.specs.Tokens.{token_again, new_token, tokenize}
+use Rattle.vault_core.specs.Vault.{Vault, Merchant, merchant_at, entitled, made_count, time_at}
 use Rattle.vault_core.specs.Yields.{CountsFollow, given_by, denied_by, gives_number, denies_number}
 use Rattle.vault_core.specs.Yields.{answered_so}
 use Rattle.vault_core.specs.declared.limit.TheConstants.{MOST_MERCHANTS, MOST_COUNT}
 use Rattle.vault_core.specs.declared.command.Command.{Command}
-use Rattle.vault_core.specs.declared.command.Command.TheVariants.{Grant, Withdraw, Tokenize}
-use Rattle.vault_core.specs.declared.command.Command.TheVariants.{Detokenize, View, Revoke, Purge, Audit}
+use Rattle.vault_core.specs.declared.command.Command.TheVariants.{Grant, Withdraw, Tokenize, Detokenize, View}
+use Rattle.vault_core.specs.declared.command.Command.TheVariants.{Revoke, Purge, Audit}
 use Rattle.vault_core.specs.declared.command.TokenCommand.{TokenCommand}
 use Rattle.vault_core.specs.declared.command.TokenRequest.{TokenRequest}
 use Rattle.vault_core.specs.declared.reply.Reply.{Reply}
@@ -71,11 +69,12 @@ count-insert f M q m x b is =
           (sym (texts_ties q m ∙ (eq_by_cmp_equiv bytes_total).symm q m ∙ apart))
     ]
 
--- the counts go up with the reply of an outcome, and only so
+-- the counts go up with the reply of an outcome, and only so; who asks for no number is answered none
 abbrev pub Follows : Command → Vault → Bytes → Outcome → Type 0
 Follows c V m o =
     (given_by o.after m ≡ given_by V m + cond (same (merchant_of c) m && gives_number o.reply) 1 0)
     × (denied_by o.after m ≡ denied_by V m + cond (same (merchant_of c) m && denies_number c o.reply) 1 0)
+    × (is_redeem c ≡ false → gives_number o.reply ≡ false)
 
 module _ (c : Command) (V : Vault) (m : Bytes) where
   -- nothing changed, and no number was given or denied
@@ -85,20 +84,23 @@ module _ (c : Command) (V : Vault) (m : Bytes) where
         ∙ ap (λ n. given_by V m + n) (sym (none_of (same (merchant_of c) m) (gives_number r) gives)),
     sym (add-zero (denied_by V m))
         ∙ ap (λ n. denied_by V m + n) (sym (none_of (same (merchant_of c) m) (denies_number c r) denies)),
+    λ _. gives,
   )
 
   -- the merchant that the command names was set
   sets : (o : Outcome) (x : Merchant) → o.after.merchants ≡ map.insert V.merchants (merchant_of c) x
       → x.given ≡ given_by V (merchant_of c) + cond (gives_number o.reply) 1 0
       → x.denied ≡ denied_by V (merchant_of c) + cond (denies_number c o.reply) 1 0
+      → (is_redeem c ≡ false → gives_number o.reply ≡ false)
       → Follows c V m o
-  sets o x is gives denies = (
+  sets o x is gives denies asks = (
     ap (λ (M : map.FinMap bytes_cmp Merchant). option_map_or (λ (y : Merchant). y.given) (map.get M m) 0) is
         ∙ count-insert (λ (y : Merchant). y.given) V.merchants (merchant_of c) m x (gives_number o.reply)
         gives,
     ap (λ (M : map.FinMap bytes_cmp Merchant). option_map_or (λ (y : Merchant). y.denied) (map.get M m) 0) is
         ∙ count-insert (λ (y : Merchant). y.denied) V.merchants (merchant_of c) m x
         (denies_number c o.reply) denies,
+    asks,
   )
 
   -- the merchant was set with its counts as they were
@@ -115,6 +117,7 @@ module _ (c : Command) (V : Vault) (m : Bytes) where
       (denied_same ∙ sym (ap (λ (y : Option Merchant). option_map_or (λ (z : Merchant). z.denied) y 0) at)
       ∙ sym (add-zero (denied_by V (merchant_of c)))
       ∙ ap (λ b. denied_by V (merchant_of c) + cond b 1 0) (sym denies))
+      (λ _. gives)
 
 follows-tokenize : (V : Vault) (m : Bytes) (a : TokenRequest) → Follows (command_of a) V m (tokenize V a)
 follows-tokenize V m a =
@@ -133,7 +136,8 @@ follows-set V m q x None e =
     (set_to V q (new_merchant x)) (plain_refusal V too_many_merchants)
     (λ _. sets (setting q x) V m (set_to V q (new_merchant x)) (new_merchant x) refl
     (sym (ap (λ (y : Option Merchant). option_map_or (λ (z : Merchant). z.given) y 0 + 0) e))
-    (sym (ap (λ (y : Option Merchant). option_map_or (λ (z : Merchant). z.denied) y 0 + 0) e)))
+    (sym (ap (λ (y : Option Merchant). option_map_or (λ (z : Merchant). z.denied) y 0 + 0) e))
+    (λ _. refl))
     (λ _. calm (setting q x) V m (Refused too_many_merchants) refl refl)
 follows-set V m q x (Some known) e =
     keeps (setting q x) V m (set_from V q x (Some known)) known
@@ -165,7 +169,7 @@ follows-detokenize V m caller q token now =
           record V { merchants = map.insert V.merchants q (merchant_after_denial known now) };
     })
     (merchant_after_denial known now) refl (as_before (λ (z : Merchant). z.given) V q known is)
-    (one_more (λ (z : Merchant). z.denied) V q known (denies reason) is counts)))
+    (one_more (λ (z : Merchant). z.denied) V q known (denies reason) is counts) (λ (no : true ≡ false). absurd (cc))))
     (λ known number is. by_test (Follows c V m) (known.given == MOST_COUNT) (plain_refusal V full) _
     (λ _. calm c V m (Refused full) refl refl)
     (λ _. sets c V m (record {
@@ -174,7 +178,7 @@ follows-detokenize V m caller q token now =
           record V { merchants = map.insert V.merchants q (merchant_after_gift known now) };
     })
     (merchant_after_gift known now) refl (one_more (λ (z : Merchant). z.given) V q known true is refl)
-    (as_before (λ (z : Merchant). z.denied) V q known is)))
+    (as_before (λ (z : Merchant). z.denied) V q known is) (λ (no : true ≡ false). absurd (cc))))
   where
     c : Command
     c = Detokenize caller q token now
@@ -272,6 +276,10 @@ follows V m (Audit caller q now) =
     (λ _. calm (Audit caller q now) V m (Refused no_merchant) refl refl)
 follows V m c = at_setting (λ set. Follows set V m (outcome V set))
     (λ q x. follows-set V m q x (merchant_at V q) refl) c refl
+
+-- a command that doesn't ask for a number isn't answered one
+pub only_redeem : (V : Vault) (c : Command) → is_redeem c ≡ false → gives_number (reply V c) ≡ false
+only_redeem V c = (follows V (merchant_of c) c).2
 
 given-follow : (cs : List Command) (V : Vault) (m : Bytes)
     → given_by (run cs V) m ≡ given_by V m + answered_so (λ c. gives_number) m cs V

@@ -19,7 +19,7 @@ pub mod RunsIsolated
 pub mod Setting
 pub mod Shown
 pub mod SoundMoved
-pub mod SoundRedeem
+pub mod SoundTokens
 pub mod StaysSound
 pub mod Steps
 pub mod TokenRequests

@@ -12,7 +12,7 @@ use Rattle.vault_core.specs.declared.right.Right.TheVariants as right
 use Rattle.vault_core.specs.declared.row.MerchantRow.{MerchantRow}
 use Rattle.vault_core.specs.declared.window.Window.{Window}
 use Rattle.vault_core.proofs.Redeemed.{moment_known}
-use Rattle.vault_core.proofs.StaysSound.{life-bounds}
+use Rattle.vault_core.proofs.SoundTokens.{life-bounds}
 
 pub shows_merchant : (V : Vault) → Sound V → (a : TokenRequest) (w : Window) (row : MerchantRow)
     → ShowsNewRequest V a w

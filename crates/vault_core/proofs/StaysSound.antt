@@ -1,56 +1,52 @@
 -- Every command leaves a sound vault sound.
 use Rattle.std.proofs.Common.{◌≡◌, ℕ, ◌+◌, ◌<◌, ◌≤◌, Bool, true, false, cond, Option, Some, None, [], ◌∷◌}
-use Rattle.std.proofs.Common.{not, is_none, refl, sym, ap, ◌∙◌, subst, arith, nat_lt, ◌==◌, zero, suc, lit≤}
-use Rattle.std.specs.Prelude.{map, IfSome}
+use Rattle.std.proofs.Common.{not, refl, sym, ◌∙◌, subst, arith, nat_lt, ◌==◌, ◌≢◌, true≢false}
+use Rattle.std.specs.Prelude.{IfSome}
 use Rattle.std.specs.FinMap as map
 use Rattle.std.specs.Cmp.{first_so, second_so}
-use Rattle.std.specs.List.{AllByRecursion, range_with_len}
 use Rattle.std.proofs.lemmas.Bool.Decides.{nat_tests}
-use Rattle.vault_pan.specs.CardText.{IsPan, IsNumber, fits}
-use Rattle.vault_pan.specs.Luhn.{passes_check}
-use Rattle.vault_pan.specs.Draw.{IsDrawing, candidate_digits}
-use Rattle.vault_pan.proofs.DrawLemmas.{candidate_digits-fits, candidate_digits-IsNumber}
-use Rattle.vault_core.specs.Draw.{chosen_token, candidates, is_good}
 use Rattle.vault_core.specs.Keys.{Bytes}
 use Rattle.vault_core.specs.Laws.{StaysSound}
 use Rattle.vault_core.specs.Lives.{AreLives, new_merchant, with_lives}
-use Rattle.vault_core.specs.Merchants.{granting, set_from, set_to}
+use Rattle.vault_core.specs.Merchants.{granting, set_from, set_to, withdrawal}
 use Rattle.vault_core.specs.Name.{IsName}
 use Rattle.vault_core.specs.Parts.{token_command, token_request}
-use Rattle.vault_core.specs.Outcome.{Outcome, plain_refusal, moved_vault}
+use Rattle.vault_core.specs.Outcome.{Outcome, plain_refusal, moved_vault, plain_reply, entry_change, on_token}
 use Rattle.vault_core.specs.Proper.{IsProper}
-use Rattle.vault_core.specs.Repeats.{current, is_reusable, reusable, same_use}
-use Rattle.vault_core.specs.Scalar.{IsLife, IsMoment, IsRequest}
-use Rattle.vault_core.specs.Sound.{Sound, IsSoundEntry}
+use Rattle.vault_core.specs.Repeats.{is_reusable}
+use Rattle.vault_core.specs.Scalar.{IsMoment}
+use Rattle.vault_core.specs.Sound.{Sound, IsSoundEntry, IsNumber, IsRevocation}
 use Rattle.vault_core.specs.Table.{after}
-use Rattle.vault_core.specs.Tokens.{token_again, new_token}
-use Rattle.vault_core.specs.Tokens.{new_entry, life_asked, tokenize}
-use Rattle.vault_core.specs.Vault.{Vault, Merchant, merchant_at, entry_at, made_count}
-use Rattle.vault_core.specs.Vault.{time_at, life_for}
-use Rattle.vault_core.specs.declared.limit.TheConstants.{MOST_MERCHANTS, MOST_TOKENS}
+use Rattle.vault_core.specs.Vault.{Vault, Merchant, merchant_at, entry_at, made_count, time_at, entitled}
+use Rattle.vault_core.specs.Vault.{state_of}
+use Rattle.vault_core.specs.declared.limit.TheConstants.{MOST_MERCHANTS, MOST_COUNT}
 use Rattle.vault_core.specs.declared.command.Command.{Command}
-use Rattle.vault_core.specs.declared.command.Command.TheVariants.{Grant, Withdraw, Tokenize}
-use Rattle.vault_core.specs.declared.command.Command.TheVariants.{Detokenize, View, Revoke, Purge, Audit}
-use Rattle.vault_core.specs.declared.command.TokenRequest.{TokenRequest}
-use Rattle.vault_core.specs.Refusals.{no_merchant}
-use Rattle.vault_core.specs.Refusals.{too_many_merchants}
+use Rattle.vault_core.specs.declared.command.Command.TheVariants.{Grant, Withdraw, Tokenize, Detokenize, View}
+use Rattle.vault_core.specs.declared.command.Command.TheVariants.{Revoke, Purge, Audit}
+use Rattle.vault_core.specs.Refusals.{no_merchant, too_many_merchants, no_right, full}
 use Rattle.vault_core.specs.declared.right.Right.{Right}
 use Rattle.vault_core.specs.declared.row.Lives.{Lives}
 use Rattle.vault_core.specs.declared.right.Right.TheVariants as right
 use Rattle.vault_core.specs.declared.row.Entry.{Entry}
-use Rattle.vault_core.specs.declared.usage.Use.{Use}
-use Rattle.vault_core.specs.declared.usage.Use.TheVariants.{Single, Multi}
 use Rattle.vault_core.proofs.Setting.{at_setting}
-use Rattle.vault_core.proofs.TokenRequests.{by_request}
 use Rattle.vault_core.proofs.Branches.{by_test, by_option}
-use Rattle.vault_core.proofs.CurrentLemmas.{current-none, current-some, same-is}
-use Rattle.vault_core.proofs.DrawLemmas.{chosen-is_good}
-use Rattle.vault_core.proofs.Finds.{find-holds}
-use Rattle.vault_core.proofs.Maps.{bytes_total, bytes_exact, entry_total, entry_exact, get-insert_same}
-use Rattle.vault_core.proofs.SoundMoved.{known-set, sound-moved}
-use Rattle.vault_core.proofs.SoundRedeem.{sound-withdraw, sound-detokenize, sound-view, sound-revoke}
-use Rattle.vault_core.proofs.SoundRedeem.{sound-purge, sound-audit}
-use Rattle.vault_core.proofs.Steps.{sound-merchant, sound-right, sound-record, sound-entry, IsSole}
+use Rattle.vault_core.proofs.Maps.{bytes_total, bytes_exact, get-insert_same}
+use Rattle.vault_core.proofs.SoundMoved.{known-set, sound-moved, sound-counts}
+use Rattle.vault_core.proofs.Steps.{sound-merchant, sound-right, sound-unright, sound-changed, later_entry}
+use Rattle.std.specs.Option.{option_map_or}
+use Rattle.vault_core.specs.Redeem.{detokenize}
+use Rattle.vault_core.specs.Retire.{retirement, revoke, revoked_entry, purging, purge, without_number}
+use Rattle.vault_core.specs.Show.{view, audit, showing, totals}
+use Rattle.vault_core.specs.declared.command.TokenCommand.{TokenCommand}
+use Rattle.vault_core.specs.declared.reply.Reply.TheVariants.{Counts}
+use Rattle.vault_core.specs.declared.reply.State.{State}
+use Rattle.vault_core.specs.declared.reply.State.TheVariants.{Live, Expired, Revoked}
+use Rattle.vault_core.specs.declared.row.EntryState.{EntryState}
+use Rattle.vault_core.specs.declared.row.EntryState.TheVariants.{Kept, Purged}
+use Rattle.vault_core.proofs.Finds.{some_same}
+use Rattle.vault_core.proofs.Redeemed.{kept-has, kept-dead}
+use Rattle.vault_core.proofs.Walks.{by_redeem, by_token}
+use Rattle.vault_core.proofs.SoundTokens.{sound-tokenize}
 
 -- the vault that an outcome leaves is sound
 abbrev SoundAfter : Outcome → Type 0
@@ -107,125 +103,147 @@ sound-set V s m x name lives moment (Some known) e =
     })
     (omega arith)
 
-all-drawn : (digits pan : Bytes) → IsDrawing digits → IsNumber pan → (a n : ℕ) → a + n ≤ 20
-    → AllByRecursion (λ token. IsNumber token × (fits token pan ≡ true))
-    (map (λ k. candidate_digits digits k pan) (range_with_len a n))
-all-drawn digits pan d p a zero le = tt
-all-drawn digits pan d p a (suc n) le = (
-  (
-    candidate_digits-IsNumber digits a pan d (omega arith) p,
-    candidate_digits-fits digits a pan d (omega arith) p,
-  ),
-  all-drawn digits pan d p (a + 1) n (omega arith),
-)
+sound-withdraw : (V : Vault) → Sound V → (caller m : Bytes) (right : Right) (now : ℕ) → IsMoment now
+    → Sound (after V (Withdraw caller m right now))
+sound-withdraw V s caller m right now moment =
+    by_option SoundAfter (merchant_at V m) (withdrawal V caller m right now) (plain_refusal V no_merchant)
+    (λ known e. sound-unright (moved_vault V m known now) (sound-moved V s m known now e moment) caller m
+    right)
+    (λ none. s)
 
-chosen-fits : (V : Vault) (m pan digits token : Bytes) → IsDrawing digits → IsNumber pan
-    → chosen_token V m pan digits ≡ Some token → IsNumber token × (fits token pan ≡ true)
-unfolding chosen_token
-chosen-fits V m pan digits token d p e =
-    find-holds (λ token. IsNumber token × (fits token pan ≡ true)) (is_good V m) (candidates digits pan)
-    token (all-drawn digits pan d p 0 20 (lit≤ tt)) e
+below : (n : ℕ) → n ≤ MOST_COUNT → (n == MOST_COUNT) ≡ false → n + 1 ≤ MOST_COUNT
+below n le h = grind (arith, nat_tests)
 
-fails-check : (b : Bool) → not b ≡ true → b ≡ false
-fails-check true h = cc
-fails-check false h = refl
+sound-detokenize : (V : Vault) → Sound V → (t : TokenCommand) → IsMoment t.moment
+    → SoundAfter (detokenize V t)
+sound-detokenize V s t moment =
+    by_redeem SoundAfter V t s
+    (λ known reason e _. by_test SoundAfter (known.denied == MOST_COUNT) (plain_refusal V full) _ (λ _. s)
+    (λ room. let old = s.merchants t.merchant known e in
+    sound-counts V s t.merchant known t.moment known.given (known.denied + 1) e moment old.given
+    (below known.denied old.denied room)))
+    (λ known number e. by_test SoundAfter (known.given == MOST_COUNT) (plain_refusal V full) _ (λ _. s)
+    (λ room. let old = s.merchants t.merchant known e in
+    sound-counts V s t.merchant known t.moment (known.given + 1) known.denied e moment
+    (below known.given old.given room) old.denied))
 
-pub life-bounds : (usage : Use) (single multi : ℕ) → IsLife single → IsLife multi
-    → IsLife (life_for usage single multi)
-life-bounds Single single multi a b = a
-life-bounds Multi single multi a b = b
-
-not-zero : (n : ℕ) → (n == 0) ≡ false → 0 < n
-not-zero n h = grind (arith, nat_tests)
-
--- the number of an entry that can be given again
-pub sole : (V : Vault) (a : TokenRequest) (known : Merchant) (token : Bytes) (usage : Use) → usage ≡ a.usage
-    → reusable usage (current V a.merchant a.pan (time_at known a.moment)) ≡ None
-    → IsSole (moved_vault V a.merchant known a.moment) a.merchant token (new_entry a known)
-    (time_at known a.moment)
-sole V a known token Single same_usage none pan other e found old new =
-    let multi = first_so _ _ (first_so _ _ new) in
-    let clash = ap (λ u. same_use u Multi) same_usage ∙ multi in cc
-sole V a known token Multi same_usage none pan other e found old new =
-    let number = same-is a.pan pan (second_so _ _ (first_so _ _ new)) in
-    let fails = current-none V a.merchant a.pan other (time_at known a.moment) e none found in
-    let clash = sym fails
-    ∙ subst (λ (x : Bytes). is_reusable x (time_at known a.moment) e ≡ true) (sym number) old in
-    cc
-
--- the parts of what is asked are values of their types
-abbrev IsProperRequest : TokenRequest → Type 0
-IsProperRequest a =
-    IsName a.caller × IsName a.merchant × IsRequest a.request × IsPan a.pan × IsDrawing a.digits
-    × IsMoment a.moment
-
-sound-again : (V : Vault) → Sound V → (a : TokenRequest) → IsProperRequest a → (known : Merchant)
-    → merchant_at V a.merchant ≡ Some known → (usage : Use) → usage ≡ a.usage → (held : Bytes × Entry)
-    → reusable usage (current V a.merchant a.pan (time_at known a.moment)) ≡ Some held
-    → Sound (token_again V a known held).after
-sound-again V s a p known is Single same_usage held h = absurd (cc)
-sound-again V s a p known is Multi same_usage held h =
-    let found = current-some V a.merchant a.pan (time_at known a.moment) held h in
-    let multi = is-multi held.1.usage (first_so _ _ (first_so _ _ found.1)) in
-    sound-record (moved_vault V a.merchant known a.moment)
-    (sound-moved V s a.merchant known a.moment is p.5) a.caller a.request
-    (record { merchant = a.merchant; token = held.0; usage = a.usage }) p.0 p.2
-    (held.1, found.0, multi ∙ same_usage)
+sound-view : (V : Vault) → Sound V → (t : TokenCommand) → SoundAfter (view V t)
+sound-view V s t =
+    by_token SoundAfter V t (λ known. plain_refusal V) (showing V) s (λ _ _ _ _. s)
+    (λ known entry state _ _ _. seen known entry state)
   where
-    is-multi : (u : Use) → same_use u Multi ≡ true → u ≡ Multi
-    is-multi Single e = cc
-    is-multi Multi e = refl
+    seen : (known : Merchant) (entry : Entry) (state : EntryState) → SoundAfter (showing V known entry state)
+    seen known entry Purged = s
+    seen known entry (Kept number state) = s
 
-sound-new : (V : Vault) → Sound V → (a : TokenRequest) → IsProperRequest a → (known : Merchant)
-    → merchant_at V a.merchant ≡ Some known → (life_asked a known == 0) ≡ false
-    → reusable a.usage (current V a.merchant a.pan (time_at known a.moment)) ≡ None
-    → (made_count V a.merchant == MOST_TOKENS) ≡ false
-    → (token : Bytes) → chosen_token V a.merchant a.pan a.digits ≡ Some token
-    → Sound (new_token V a known token).after
-sound-new V s a p known is offered none room token drew =
-    let old = s.merchants a.merchant known is in
-    let good = chosen-is_good V a.merchant a.pan a.digits token drew in
-    let shape = chosen-fits V a.merchant a.pan a.digits token p.4 p.3.0 drew in
-    let lives = not-zero (life_asked a known) offered in
-    let short = life-bounds a.usage known.single_life known.multi_life old.lives.0 old.lives.1 in
-    let few = not-full (made_count V a.merchant) (s.made_few a.merchant) room in
-    let later : Merchant = record known { moment = time_at known a.moment } in
-    let fine : IsSoundEntry token (new_entry a known) later = record {
-      token_fails = (shape.0, fails-check (passes_check token) (first_so _ _ good));
-      number = (p.3, shape.1);
-      birth = omega arith;
-      lives = omega arith;
-      life = omega arith;
-      revoked = tt;
-    } in
-    let V1 = moved_vault V a.merchant known a.moment in
-    let s2 = sound-entry V1 (sound-moved V s a.merchant known a.moment is p.5) a.merchant token
-    (new_entry a known) later
-    (get-insert_same bytes_total bytes_exact V.merchants a.merchant later) fine
-    (none_is (entry_at V a.merchant token) (second_so _ _ good)) few
-    (sole V a known token a.usage refl none)
-    in
-    sound-record (record V1 { entries = map.insert V.entries (a.merchant, token) (new_entry a known) }) s2
-    a.caller a.request
-    (record { merchant = a.merchant; token = token; usage = a.usage }) p.0 p.2 (
-      new_entry a known,
-      get-insert_same entry_total entry_exact V.entries (a.merchant, token)
-          (new_entry a known),
-      refl,
-    )
-  where
-    not-full : (n : ℕ) → n ≤ MOST_TOKENS → (n == MOST_TOKENS) ≡ false → n < MOST_TOKENS
-    not-full n le h = grind (arith, nat_tests)
+sound-audit : (V : Vault) → Sound V → (caller m : Bytes) (now : ℕ) → SoundAfter (audit V caller m now)
+sound-audit V s caller m now =
+    by_option SoundAfter (merchant_at V m) (totals V caller m now) (plain_refusal V no_merchant)
+    (λ known _. by_test SoundAfter (not (entitled V caller m right.Audit (time_at known now)))
+    (plain_refusal V no_right) (plain_reply V (Counts (made_count V m) known.given known.denied))
+    (λ _. s) (λ _. s))
+    (λ none. s)
 
-    none_is : (o : Option Entry) → is_none o ≡ true → o ≡ None
-    none_is None h = refl
-    none_is (Some x) h = cc
+-- a moment at which an entry is revoked is from its birth to the merchant's moment
+revocation : (entry : Entry) (at : ℕ) (o : Option ℕ) → entry.birth ≤ at → IsRevocation entry at o
+    → (entry.birth ≤ option_map_or (λ (first : ℕ). first) o at)
+    × (option_map_or (λ (first : ℕ). first) o at ≤ at)
+revocation entry at None birth h = (birth, omega arith)
+revocation entry at (Some first) birth h = h
 
-sound-tokenize : (V : Vault) → Sound V → (a : TokenRequest) → IsProperRequest a → SoundAfter (tokenize V a)
-sound-tokenize V s a p =
-    by_request SoundAfter V a (λ _. s) (λ _ _ _ _ _. s)
-    (λ known held _ is one. sound-again V s a p known is a.usage refl held one)
-    (λ known token _ is life none room drew. sound-new V s a p known is life none room token drew)
+numbered : (token : Bytes) (entry entry' : Entry) (moment : ℕ) (o : Option Bytes) (number : Bytes)
+    → o ≡ Some number
+    → IsNumber token entry moment o → IsNumber token entry' moment o
+numbered token entry entry' moment None number has h = cc
+numbered token entry entry' moment (Some other) number has h = h
+
+-- what is revoked can't be given again
+not_reusable : (pan : Bytes) (moment at : ℕ) (entry : Entry)
+    → is_reusable pan moment (revoked_entry entry at) ≡ true → ⊥
+not_reusable pan moment at entry h = true≢false (sym (second_so _ _ (first_so _ _ (second_so _ _ h))))
+
+-- what has no number can't be given again
+numberless : (pan : Bytes) (at : ℕ) (entry : Entry) → is_reusable pan at (without_number entry) ≡ true → ⊥
+numberless pan at entry h = true≢false (sym (second_so _ _ (first_so _ _ h)))
+
+-- the entry of a command's token changes, and can't be given again where it couldn't before
+module _ (V : Vault) (s : Sound V) (t : TokenCommand) (moment : IsMoment t.moment) where
+  sound-with_entry : (known : Merchant) → merchant_at V t.merchant ≡ Some known
+      → (entry new : Entry) → entry_at V t.merchant t.token ≡ Some entry → new.usage ≡ entry.usage
+      → (IsSoundEntry t.token entry (record known { moment = time_at known t.moment })
+      → IsSoundEntry t.token new (record known { moment = time_at known t.moment }))
+      → ((pan : Bytes) → is_reusable pan (time_at known t.moment) new ≡ true
+      → is_reusable pan (time_at known t.moment) entry ≡ true)
+      → SoundAfter (entry_change V t known new)
+  sound-with_entry known e entry new here usage fine reuse =
+      let later : Merchant = record known { moment = time_at known t.moment } in
+      let old = s.entries t.merchant t.token entry here in
+      let is_known : old.0 ≡ known = some_same (sym old.1 ∙ e) in
+      let was : IsSoundEntry t.token entry later =
+      later_entry t.token entry known later (omega arith)
+      (subst (λ (x : Merchant). IsSoundEntry t.token entry x) is_known old.2) in
+      sound-changed (moved_vault V t.merchant known t.moment)
+      (sound-moved V s t.merchant known t.moment e moment) t.merchant t.token entry new later
+      (get-insert_same bytes_total bytes_exact V.merchants t.merchant later) here (fine was) usage reuse
+
+  -- what the answer to each state of a known token's entry leaves is sound
+  abbrev Leaves : (Merchant → Entry → EntryState → Outcome) → Type 0
+  Leaves answer =
+      (known : Merchant) → merchant_at V t.merchant ≡ Some known → (entry : Entry)
+      → entry_at V t.merchant t.token ≡ Some entry → (state : EntryState)
+      → state_of entry (time_at known t.moment) ≡ state → SoundAfter (answer known entry state)
+
+  sound-by_state : (answer : Merchant → Entry → EntryState → Outcome) → Leaves answer
+      → SoundAfter (on_token V t (λ known. plain_refusal V) answer)
+  sound-by_state answer leaves =
+      by_token SoundAfter V t (λ known. plain_refusal V) answer s (λ _ _ _ _. s)
+      (λ known entry state e here is. leaves known e entry here state is)
+
+  sound-revoke : SoundAfter (revoke V t)
+  sound-revoke = sound-by_state (retirement V t) ended
+    where
+      ended : Leaves (retirement V t)
+      ended known e entry here Purged is = s
+      ended known e entry here (Kept number state) is =
+          let at = time_at known t.moment in
+          let has = (kept-has entry at number state is).0 in
+          sound-with_entry known e entry (revoked_entry entry at) here refl
+          (λ was. record {
+            token_fails = was.token_fails;
+            number = numbered t.token entry (revoked_entry entry at) at entry.number number has was.number;
+            birth = was.birth;
+            lives = was.lives;
+            life = was.life;
+            revoked = revocation entry at entry.revoked was.birth was.revoked;
+          })
+          (λ pan again. absurd (not_reusable pan at at entry again))
+
+  sound-purge : SoundAfter (purge V t)
+  sound-purge = sound-by_state (purging V t) ended
+    where
+      without : (known : Merchant) → merchant_at V t.merchant ≡ Some known → (entry : Entry)
+          → entry_at V t.merchant t.token ≡ Some entry → (number : Bytes) (state : State) → state ≢ Live
+          → state_of entry (time_at known t.moment) ≡ Kept number state
+          → SoundAfter (entry_change V t known (without_number entry))
+      without known e entry here number state dead is =
+          sound-with_entry known e entry (without_number entry) here refl
+          (λ was. record {
+            token_fails = was.token_fails;
+            number = kept-dead entry (time_at known t.moment) number state is dead;
+            birth = was.birth;
+            lives = was.lives;
+            life = was.life;
+            revoked = was.revoked;
+          })
+          (λ pan again. absurd (numberless pan (time_at known t.moment) entry again))
+
+      ended : Leaves (purging V t)
+      ended known e entry here Purged is = sound-moved V s t.merchant known t.moment e moment
+      ended known e entry here (Kept number Live) is = s
+      ended known e entry here (Kept number Revoked) is =
+          without known e entry here number Revoked (λ h. cc) is
+      ended known e entry here (Kept number Expired) is =
+          without known e entry here number Expired (λ h. cc) is
 
 pub sound-after : (V : Vault) → Sound V → (c : Command) → IsProper c → Sound (after V c)
 sound-after V s (Grant caller m right until now) p = sound-grant V s caller m right until now p.0 p.2 p.3

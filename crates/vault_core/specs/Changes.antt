@@ -1,5 +1,5 @@
 -- Changes, and the vault with them.
-use Rattle.std.specs.Prelude.{◌≡◌, ℕ, ◌+◌, Bool, true, false, Option, Some, None, max, is_none, IsSome}
+use Rattle.std.specs.Prelude.{◌≡◌, ℕ, ◌+◌, Bool, true, false, Option, Some, None, max, is_none}
 use Rattle.std.specs.Prelude.{if◌then◌else◌}
 use Rattle.std.specs.FinMap as map
 use Rattle.std.specs.Option.{option_map_or}
@@ -15,7 +15,6 @@ use Rattle.vault_core.specs.declared.changes.Changes.{Changes}
 use Rattle.vault_core.specs.declared.changes.Count.{Count}
 use Rattle.vault_core.specs.declared.changes.Count.TheVariants.{Made, Given, Denied}
 use Rattle.vault_core.specs.declared.command.Command.{Command}
-use Rattle.vault_core.specs.declared.command.Command.TheVariants.{Tokenize, View, Audit}
 use Rattle.vault_core.specs.declared.command.TokenRequest.{TokenRequest}
 use Rattle.vault_core.specs.declared.reply.Reply.{Reply}
 use Rattle.vault_core.specs.declared.reply.Reply.TheVariants.{Refused}
@@ -132,13 +131,6 @@ record_changes a row token =
       lives = Some (moved_lives a.merchant row a.moment);
       recorded = Some (a.caller, a.request, r);
     }
-
--- a View, an Audit, and a request that the window shows to be recorded before change nothing
-abbrev pub WritesNothing : Window → Command → Type 0
-WritesNothing w (Tokenize caller m request usage pan digits now) = IsSome w.recorded
-WritesNothing w (View caller m token now) = Unit {0}
-WritesNothing w (Audit caller m now) = Unit {0}
-WritesNothing w c = ⊥
 
 -- one more number was denied at the merchant, whose moment moves, and nothing else changes
 abbrev pub CountsDenial : Bytes → Changes → Type 0

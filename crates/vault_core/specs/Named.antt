@@ -1,5 +1,5 @@
 -- Who asks what of whom: a command's merchant and caller, and which refusals of it are counted.
-use Rattle.std.specs.Prelude.{◌||◌, ◌==◌, ℕ, Bool, false, Option, Some, None}
+use Rattle.std.specs.Prelude.{◌||◌, ◌==◌, ℕ, Bool, true, false, Option, Some, None}
 use Rattle.vault_core.specs.Keys.{Bytes}
 use Rattle.vault_core.specs.Parts.{parts_of}
 use Rattle.vault_core.specs.Refusals.{no_right, no_token, token_purged, token_revoked, token_expired}
@@ -38,6 +38,11 @@ caller_in p = None
 -- the caller that makes a command
 abbrev pub caller_of : Command → Option Bytes
 caller_of c = caller_in (parts_of c)
+
+-- whether a command asks for a number
+abbrev pub is_redeem : Command → Bool
+is_redeem (command.Detokenize caller m token now) = true
+is_redeem c = false
 
 -- the refusals by which a number is denied: 8 and 13 to 16
 abbrev pub denies : ℕ → Bool

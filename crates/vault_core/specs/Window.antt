@@ -1,5 +1,5 @@
--- The rows that a command needs.
-use Rattle.std.specs.Prelude.{◌≡◌, ℕ, Option, Some, None, IfNone, false, option_map}
+-- The rows that a command needs, and the commands that change none.
+use Rattle.std.specs.Prelude.{◌≡◌, ℕ, Option, Some, None, IsSome, IfNone, false, option_map}
 use Rattle.std.specs.Option.{option_map_or}
 use Rattle.std.specs.FinMap as map
 use Rattle.vault_core.specs.Draw.{chosen_token}
@@ -11,6 +11,7 @@ use Rattle.vault_core.specs.Scalar.{IsLife}
 use Rattle.vault_core.specs.Vault.{Vault, Merchant, merchant_at, entry_at, entitled, made_count, time_at}
 use Rattle.vault_core.specs.Vault.{life_for}
 use Rattle.vault_core.specs.declared.command.Command.{Command}
+use Rattle.vault_core.specs.declared.command.Command.TheVariants as command
 use Rattle.vault_core.specs.declared.command.TokenCommand.{TokenCommand}
 use Rattle.vault_core.specs.declared.command.TokenRequest.{TokenRequest}
 use Rattle.vault_core.specs.declared.parts.Parts.{Parts}
@@ -68,6 +69,13 @@ ShowsParts V (Audit caller m now) w =
 -- the window shows what the vault holds at the places that the command needs
 abbrev pub IsWindow : Vault → Command → Window → Type 0
 IsWindow V c w = ShowsParts V (parts_of c) w
+
+-- a View, an Audit, and a request that the window shows to be recorded before change nothing
+abbrev pub WritesNothing : Window → Command → Type 0
+WritesNothing w (command.Tokenize caller m request usage pan digits now) = IsSome w.recorded
+WritesNothing w (command.View caller m token now) = Unit {0}
+WritesNothing w (command.Audit caller m now) = Unit {0}
+WritesNothing w c = ⊥
 
 -- nothing is shown
 abbrev pub empty_window : Window

@@ -1,10 +1,11 @@
 //! What a command answers, and what it changes.
 ghost use Rattle.std.specs.Prelude.{◌≡◌};
 ghost use Rattle.vault_refusal.specs.Refusal.{number_of};
-ghost use Rattle.vault_core.specs.Changes.{Decides, FitsVault, RefusesQuietly, WritesNothing};
+ghost use Rattle.vault_core.specs.Changes.{Decides, FitsVault, RefusesQuietly};
 ghost use Rattle.vault_core.specs.Changes.{moved_lives, no_changes};
 ghost use Rattle.vault_core.specs.Parts.{command_with};
 ghost use Rattle.vault_core.specs.Proper.{HasLivesInRange, IsProper};
+ghost use Rattle.vault_core.specs.Window.{WritesNothing};
 
 mod merchant;
 mod redeem;
@@ -46,7 +47,8 @@ pub fn decide(w: &Window, c: &Command) -> (Reply, Changes)
     settle(w, &Parts::of(c))
 }
 
-/// The answer to a command that is taken apart, and what it changes: each in its own function.
+/// The answer to a command that is taken apart, and what it changes.
+#[tactic(auto, using(crate::proofs::Fitting::fits_vault))]
 pub fn settle(w: &Window, parts: &Parts) -> (Reply, Changes)
     // all parts of the command are values of their types
     requires { IsProper (command_with parts.now) }
@@ -54,6 +56,20 @@ pub fn settle(w: &Window, parts: &Parts) -> (Reply, Changes)
     ensures settles { Decides w.now (command_with parts.now) result }
     // of whatever sound vault the window is, the changes fit it
     ensures fits { FitsVault w.now (command_with parts.now) result.1 }
+    // a refusal changes nothing, but that a denial is counted
+    ensures refusals { RefusesQuietly (command_with parts.now) result.0 result.1 }
+    // a View, an Audit, and a Tokenize that the window shows to be recorded change nothing
+    ensures silent { WritesNothing w.now (command_with parts.now) → result.1 ≡ no_changes }
+{
+    by_kind(w, parts)
+}
+
+/// Each kind of command is answered in its own function.
+fn by_kind(w: &Window, parts: &Parts) -> (Reply, Changes)
+    // all parts of the command are values of their types
+    requires { IsProper (command_with parts.now) }
+    // of whatever sound vault the window is, the decision is the command's outcome
+    ensures settles { Decides w.now (command_with parts.now) result }
     // a refusal changes nothing, but that a denial is counted
     ensures refusals { RefusesQuietly (command_with parts.now) result.0 result.1 }
     // a View, an Audit, and a Tokenize that the window shows to be recorded change nothing

@@ -15,8 +15,7 @@ use Rattle.vault_core.specs.Runs.{run}
 use Rattle.vault_core.specs.Table.{reply}
 use Rattle.vault_core.specs.Vault.{Vault as Content, merchant_at}
 use Rattle.vault_core.specs.declared.command.Command.{Command}
-use Rattle.vault_core.specs.declared.command.Command.TheVariants.{Grant, Withdraw, Tokenize}
-use Rattle.vault_core.specs.declared.command.Command.TheVariants.{Detokenize, View, Revoke, Purge, Audit}
+use Rattle.vault_core.specs.declared.command.Command.TheVariants.{Grant, Withdraw}
 use Rattle.vault_engine.specs.Passing.{IsBefore, Passage}
 use Rattle.vault_store.specs.declared.vault.Fault.{Fault}
 use Rattle.vault_store.specs.declared.vault.Fault.TheVariants.{Memory, Store, Reopen}
@@ -63,15 +62,9 @@ own_verdict V (Grant caller m right until now) own =
 own_verdict V (Withdraw caller m right now) own =
     by_option HasVerdict (merchant_at V m) (withdrawal V caller m right now) (plain_refusal V no_merchant)
     (λ _ _. (Ok tt, refl)) (λ _. (Err no_merchant, refl))
-own_verdict V (Tokenize caller m request usage pan digits now) own = absurd (cc)
-own_verdict V (Detokenize caller m token now) own = absurd (cc)
-own_verdict V (View caller m token now) own = absurd (cc)
-own_verdict V (Revoke caller m token now) own = absurd (cc)
-own_verdict V (Purge caller m token now) own = absurd (cc)
-own_verdict V (Audit caller m now) own = absurd (cc)
 own_verdict V c own = at_setting (λ set. (v : Verdict) × (reply V set ≡ reply_of v))
     (λ m x. by_set HasVerdict V m x (merchant_at V m) (λ _. (Ok tt, refl))
-    (λ _. (Err too_many_merchants, refl)) (λ _. (Ok tt, refl))) c refl
+    (λ _. (Err too_many_merchants, refl)) (λ _. (Ok tt, refl))) c (cc)
 
 module _ (tells : Turns) (w : Passage) (V : Content) (b : IsBefore w V) (s : Streams) (unsent : Type 0)
     (quiet : unsent → IsQuiet s) (F : Type 0) where

@@ -7,7 +7,7 @@ use Rattle.std.specs.List.{Contains}
 use Rattle.std.specs.Option.{option_map_or}
 use Rattle.vault_pan.specs.CardText.{same}
 use Rattle.vault_core.specs.Keys.{Bytes}
-use Rattle.vault_core.specs.Named.{merchant_of}
+use Rattle.vault_core.specs.Named.{merchant_of, is_redeem}
 use Rattle.vault_core.specs.Proper.{IsProper}
 use Rattle.vault_core.specs.Sound.{Sound}
 use Rattle.vault_core.specs.Parts.{command_of, request_in}
@@ -15,7 +15,6 @@ use Rattle.vault_core.specs.Table.{reply, after}
 use Rattle.vault_core.specs.Vault.{Vault, empty_vault}
 use Rattle.vault_core.specs.Yields.{given_by, gives_number}
 use Rattle.vault_core.specs.declared.command.Command.{Command}
-use Rattle.vault_core.specs.declared.command.Command.TheVariants.{Detokenize}
 use Rattle.vault_core.specs.declared.command.TokenRequest.{TokenRequest}
 use Rattle.vault_core.specs.declared.reply.Reply.{Reply}
 use Rattle.vault_core.specs.declared.reply.Reply.TheVariants.{Token}
@@ -97,11 +96,6 @@ abbrev pub EntriesComeOnce : Type 0
 EntriesComeOnce =
     (h : List (Step × Vault)) → IsHistory empty_vault h → (caller : Bytes) (request : ℕ)
     → entries_made caller request empty_vault h ≤ 1
-
--- whether a command asks for a number
-abbrev pub is_redeem : Command → Bool
-is_redeem (Detokenize caller m token now) = true
-is_redeem c = false
 
 -- whether a step answers a number of this merchant's
 abbrev pub answers_number : Bytes → Step → Bool
