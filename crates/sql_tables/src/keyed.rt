@@ -128,7 +128,6 @@ pub fn find_in<S: Alter, T: Finds>(
     tx: &mut Transaction<'_, S>,
     params: &[ValueRef<'_>],
 ) -> Result<Option<T::Value>, StoreFault>
-    // the transaction is over the same connection, and on an honest disk a crash leaves nothing new
     ensures goes_on { Proceeds S.Store tx.old tx.new }
     // with Ok, on an honest disk, tables that stood for pairs do so still, and this is what is at the key
     ensures told { HasCleanDisk (state S.Store tx.new.conn.now) → IfOk result (λ found. (base : Database)
@@ -148,7 +147,6 @@ pub fn put<S: Alter, T: Puts>(
     tx: &mut Transaction<'_, S>,
     params: &[ValueRef<'_>],
 ) -> Result<(), Error>
-    // the transaction is over the same connection, and on an honest disk a crash leaves nothing new
     ensures goes_on { Proceeds S.Store tx.old tx.new }
     // with Ok, on an honest disk, tables that stood for pairs stand for them with this one put at its key
     ensures done { HasCleanDisk (state S.Store tx.new.conn.now)
@@ -166,7 +164,6 @@ pub fn take<S: Alter, T: Takes>(
     tx: &mut Transaction<'_, S>,
     params: &[ValueRef<'_>],
 ) -> Result<(), Error>
-    // the transaction is over the same connection, and on an honest disk a crash leaves nothing new
     ensures goes_on { Proceeds S.Store tx.old tx.new }
     // with Ok, on an honest disk, tables that stood for pairs stand for them without the one at this key
     ensures done { HasCleanDisk (state S.Store tx.new.conn.now)

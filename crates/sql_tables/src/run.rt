@@ -41,7 +41,6 @@ pub fn change<S: Alter>(
     sql: &str,
     params: &[ValueRef<'_>],
 ) -> Result<usize, Error>
-    // the transaction is over the same connection, and on an honest disk a crash leaves nothing new
     ensures goes_on { Proceeds S.Store tx.old tx.new }
     // with Ok, on an honest disk, the statement ran in the open transaction, if one was open, and changed so
     // many rows
@@ -71,7 +70,6 @@ pub fn rows_in<S: Alter>(
     sql: &str,
     params: &[ValueRef<'_>],
 ) -> Result<Vec<Row>, Error>
-    // the transaction is over the same connection, and on an honest disk a crash leaves nothing new
     ensures goes_on { Proceeds S.Store tx.old tx.new }
     // on an honest disk, Ok gives the rows that the query shows
     ensures told { HasCleanDisk (state S.Store tx.new.conn.now)

@@ -17,7 +17,7 @@ use Rattle.vault_rights.specs.Named.{Names, Row}
 use Rattle.vault_rights.specs.Proper.{IsProper as IsProperDocument}
 use Rattle.vault_changes.specs.Grants.{grants_at}
 use Rattle.vault_changes.specs.Settings.{HasLives as HasListedLives, wanted_at}
-use Rattle.vault_merchants.specs.Listed.{AreRowsOf, Wanted}
+use Rattle.vault_merchants.specs.ListedMerchants.{AreRowsOf, Wanted}
 use Rattle.vault_jobs.specs.Tasks.{IsProper as HasLives}
 use Rattle.vault_jobs.specs.declared.show.Shown.TheVariants.{Changes, Settings}
 use Rattle.vault_jobs.specs.declared.lists.ListFile.{ListFile}
@@ -28,7 +28,7 @@ use Rattle.vault_words.specs.declared.commands.rights_file.RightsFileJob.{Rights
 use Rattle.vault_app.specs.Commands.RightsFile.{rights_task}
 use Rattle.vault_app.specs.Merchants.{AreMerchantsOf}
 use Rattle.vault_app.specs.Rights.{IsListed}
-use Rattle.vault_app.specs.Values.{AreMerchantValues, AreValues}
+use Rattle.vault_app.specs.TaskValues.{AreMerchantValues, AreValues}
 
 -- the lives of a proper command are lives
 lives_of : (c : Command) → IsProper c → HasLivesInRange c

@@ -10,5 +10,5 @@ pub mod Notes
 pub mod Plans
 pub mod Rights
 pub mod Saying
-pub mod Values
+pub mod TaskValues
 pub mod World

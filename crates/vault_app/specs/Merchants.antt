@@ -4,7 +4,7 @@ use Rattle.std.specs.declared.io.ErrorKind.{ErrorKind}
 use Rattle.vault_refusal.specs.Refusal.{number_of}
 use Rattle.vault_refusal.specs.declared.refusal.Refusal.TheVariants.{NotToml, RightsMemory}
 use Rattle.vault_merchants.specs.Faults.{IsFault, refusal_of}
-use Rattle.vault_merchants.specs.Listed.{AreListed, Wanted}
+use Rattle.vault_merchants.specs.ListedMerchants.{AreListed, Wanted}
 use Rattle.vault_merchants.specs.declared.fault.MerchantsFault.{MerchantsFault}
 use Rattle.vault_jobs.specs.declared.stop.Stop.TheVariants as stop
 use Rattle.vault_live.specs.Following.{has_end}

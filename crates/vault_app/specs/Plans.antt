@@ -26,7 +26,7 @@ use Rattle.vault_app.specs.Commands.Sweep.{sweep_says}
 use Rattle.vault_app.specs.Commands.Trial.{trial_says}
 use Rattle.vault_app.specs.Endings.{EndsSo, no_ending}
 use Rattle.vault_app.specs.Saying.{IsPlanFor, IsTaskFor, Saying}
-use Rattle.vault_app.specs.Values.{AreValues}
+use Rattle.vault_app.specs.TaskValues.{AreValues}
 use Rattle.vault_app.specs.World.{World}
 use Rattle.vault_app.specs.declared.ending.Ending.{Ending}
 use Rattle.vault_app.specs.declared.placeholder.Placeholder.{Placeholder}

@@ -20,7 +20,7 @@ use Rattle.vault_batch.specs.Faults.{fault_of}
 use Rattle.vault_batch.specs.Lines.{first_line}
 use Rattle.vault_batch.specs.Rows.{BeginRecordsOf, Row, fields_in, header, records_with}
 use Rattle.vault_batch.specs.Stops.{IsBatched, Stops}
-use Rattle.vault_batch.specs.declared.counts.Counts.{Counts}
+use Rattle.vault_batch.specs.declared.row_counts.Counts.{Counts}
 use Rattle.vault_batch.specs.declared.fault.BatchFault.{BatchFault}
 use Rattle.vault_batch.specs.declared.fault.BatchFault.TheVariants as fault
 use Rattle.vault_batch.specs.declared.asker.Asker.{Asker}

@@ -7,7 +7,7 @@ use Rattle.csv.specs.declared.parser.State.TheVariants.{StartRecord}
 use Rattle.csv.specs.declared.reader.Reader.{Reader}
 use Rattle.csv.proofs.ReadFacts.{rows-end, rows-more}
 use Rattle.vault_core.specs.Keys.{Bytes}
-use Rattle.vault_batch.specs.Reading.{HasGiven, StandsAfter, StandsNext}
+use Rattle.vault_batch.specs.ReadingRecords.{HasGiven, StandsAfter, StandsNext}
 use Rattle.vault_batch.specs.Rows.{AreRecordsOf, BeginRecordsOf, Fields}
 
 -- before all records

@@ -10,7 +10,7 @@ use Rattle.vault_batch.specs.Asking.{Asked, answer_line, rows_by}
 use Rattle.vault_batch.specs.Lines.{first_line, has_token}
 use Rattle.vault_batch.specs.Rows.{Row}
 use Rattle.vault_batch.specs.declared.asker.Asker.{Asker}
-use Rattle.vault_batch.specs.declared.counts.Counts.{Counts}
+use Rattle.vault_batch.specs.declared.row_counts.Counts.{Counts}
 
 -- the rows themselves
 abbrev pub rows_of : List Asked → List Row

@@ -4,7 +4,7 @@ use Rattle.std.specs.Io.KnownBytes.{Appends}
 use Rattle.csv.specs.declared.reader.Reader.{Reader}
 use Rattle.vault_core.specs.Keys.{Bytes}
 use Rattle.vault_batch.specs.Lines.{first_line}
-use Rattle.vault_batch.specs.Reading.{StandsAfter}
+use Rattle.vault_batch.specs.ReadingRecords.{StandsAfter}
 use Rattle.vault_batch.specs.Rows.{fields_in, header}
 use Rattle.vault_batch.specs.Stops.{HasNoHeader}
 use Rattle.vault_batch.specs.declared.fault.BatchFault.{BatchFault}

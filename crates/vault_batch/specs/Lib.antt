@@ -4,6 +4,6 @@ pub mod Faults
 pub mod Header
 pub mod Laws
 pub mod Lines
-pub mod Reading
+pub mod ReadingRecords
 pub mod Rows
 pub mod Stops

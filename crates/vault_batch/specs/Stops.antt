@@ -8,7 +8,7 @@ use Rattle.vault_batch.specs.Batched.{Answered, Counted, FirstLineCut, Unchanged
 use Rattle.vault_batch.specs.Lines.{first_line}
 use Rattle.vault_batch.specs.Rows.{AreRecordsOf, BeginRecordsOf, Fields, Row, fields_in, header}
 use Rattle.vault_batch.specs.Rows.{records_with}
-use Rattle.vault_batch.specs.declared.counts.Counts.{Counts}
+use Rattle.vault_batch.specs.declared.row_counts.Counts.{Counts}
 use Rattle.vault_batch.specs.declared.fault.BatchFault.{BatchFault}
 use Rattle.vault_batch.specs.declared.fault.BatchFault.TheVariants as fault
 use Rattle.vault_batch.specs.declared.asker.Asker.{Asker}

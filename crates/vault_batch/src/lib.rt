@@ -3,10 +3,10 @@
 
 pub mod asker;
 pub mod batch;
-pub mod counts;
+mod csv_records;
 pub mod fault;
 pub mod laws;
 mod line;
-mod records;
 mod row;
+pub mod row_counts;
 mod unit;

@@ -4,5 +4,5 @@
 pub mod lock;
 pub mod log;
 pub mod make;
-mod names;
+mod names_beside;
 pub mod page;

@@ -1,5 +1,5 @@
 //! The log beside a file.
-use crate::names::log_name;
+use crate::names_beside::log_name;
 use std::alloc::{Alloc, AllocError};
 use std::fs::Files;
 use std::io::ErrorKind;

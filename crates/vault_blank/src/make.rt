@@ -10,7 +10,7 @@ ghost use Rattle.std.specs.IoError.{error_kind};
 
 use crate::lock::Lock;
 use crate::log::has_log;
-use crate::names::{folder_of, second_name};
+use crate::names_beside::{folder_of, second_name};
 use crate::page::write_blank;
 use std::alloc::{Alloc, AllocError};
 use std::fs::{Files, Metadata, OpenFile, OpenOptions, Permissions};

@@ -4,7 +4,7 @@ use Rattle.std.specs.BTreeSet.{BTreeSet}
 use Rattle.std.specs.Cmp.{unsigned_tied}
 use Rattle.std.specs.Ordering.{eq_by_cmp, is_eq, nat_cmp, ordering_then}
 use Rattle.vault_core.specs.Keys.{bytes_cmp}
-use Rattle.vault_merchants.specs.Listed.{Wanted}
+use Rattle.vault_merchants.specs.ListedMerchants.{Wanted}
 use Rattle.vault_changes.proofs.Keyed.{Puts, both_equal, keyed_further}
 use Rattle.vault_changes.specs.MerchantKeys.{HasMerchants, Setting, held_setting, setting_cmp}
 use Rattle.vault_changes.specs.MerchantKeys.{wanted_setting}

@@ -33,7 +33,7 @@ use Rattle.vault_changes.specs.Grants.{AreDone}
 use Rattle.vault_changes.specs.MerchantsListed.{AreApart, HasMerchant, IsOther, KeepsMerchants}
 use Rattle.vault_changes.specs.MerchantsListed.{MerchantsBecomeListed}
 use Rattle.vault_changes.specs.Settings.{Named, is_set, missing_merchants, setting_at, settings_at, stands_in}
-use Rattle.vault_merchants.specs.Listed.{Wanted}
+use Rattle.vault_merchants.specs.ListedMerchants.{Wanted}
 
 -- ---- what is held
 

@@ -15,7 +15,7 @@ use Rattle.vault_core.specs.declared.limit.TheConstants.{MOST_MERCHANTS}
 use Rattle.vault_core.specs.declared.reply.Reply.{Reply}
 use Rattle.vault_changes.specs.Carried.{IsCarriedOut, Verdict, reply_of}
 use Rattle.vault_changes.specs.Settings.{HasLives, Named, missing_merchants, setting_at, settings_at}
-use Rattle.vault_merchants.specs.Listed.{Wanted}
+use Rattle.vault_merchants.specs.ListedMerchants.{Wanted}
 use Rattle.vault_changes.specs.Settings.{stands_in}
 
 -- a merchant is set, or that is refused

@@ -6,7 +6,7 @@ use Rattle.std.specs.declared.cmp.Ordering.{Ordering}
 use Rattle.vault_pan.specs.Mask.{lead_digits}
 use Rattle.vault_core.specs.Keys.{Bytes, bytes_cmp}
 use Rattle.vault_changes.specs.Settings.{Named, stands_in}
-use Rattle.vault_merchants.specs.Listed.{Wanted}
+use Rattle.vault_merchants.specs.ListedMerchants.{Wanted}
 
 -- a merchant with its two lives and the digits of its lead
 abbrev pub Setting : Type 0

@@ -7,7 +7,7 @@ use Rattle.vault_core.specs.Vault.{Merchant, Vault as Content, merchant_at}
 use Rattle.vault_store.specs.Listed.{merchant_rows}
 use Rattle.vault_changes.specs.Grants.{AreDone}
 use Rattle.vault_changes.specs.Settings.{settings_at}
-use Rattle.vault_merchants.specs.Listed.{Wanted}
+use Rattle.vault_merchants.specs.ListedMerchants.{Wanted}
 
 -- the vault has the merchant, with these lives and this lead
 pub record HasMerchant (V : Content) (row : Wanted) : Type 0 where

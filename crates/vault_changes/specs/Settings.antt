@@ -10,7 +10,7 @@ use Rattle.vault_core.specs.declared.command.Command.{Command}
 use Rattle.vault_core.specs.declared.command.Command.TheVariants.{SetMerchant}
 use Rattle.vault_core.specs.declared.row.MerchantRow.{MerchantRow}
 use Rattle.vault_engine.specs.Passing.{IsBefore, Passage}
-use Rattle.vault_merchants.specs.Listed.{Wanted}
+use Rattle.vault_merchants.specs.ListedMerchants.{Wanted}
 use Rattle.vault_store.specs.Listed.{merchant_rows}
 use Rattle.vault_store.specs.declared.vault.Fault.{Fault}
 use Rattle.vault_changes.specs.Grants.{CarriesAll}

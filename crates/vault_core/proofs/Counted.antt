@@ -169,7 +169,8 @@ follows-detokenize V m caller q token now =
           record V { merchants = map.insert V.merchants q (merchant_after_denial known now) };
     })
     (merchant_after_denial known now) refl (as_before (λ (z : Merchant). z.given) V q known is)
-    (one_more (λ (z : Merchant). z.denied) V q known (denies reason) is counts) (λ (no : true ≡ false). absurd (cc))))
+    (one_more (λ (z : Merchant). z.denied) V q known (denies reason) is counts)
+    (λ (no : true ≡ false). absurd (cc))))
     (λ known number is. by_test (Follows c V m) (known.given == MOST_COUNT) (plain_refusal V full) _
     (λ _. calm c V m (Refused full) refl refl)
     (λ _. sets c V m (record {

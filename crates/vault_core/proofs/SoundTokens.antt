@@ -150,7 +150,8 @@ sound-new V s a p known is offered none room token drew =
     none_is None h = refl
     none_is (Some x) h = cc
 
-pub sound-tokenize : (V : Vault) → Sound V → (a : TokenRequest) → IsProperRequest a → SoundAfter (tokenize V a)
+pub sound-tokenize : (V : Vault) → Sound V → (a : TokenRequest) → IsProperRequest a
+    → SoundAfter (tokenize V a)
 sound-tokenize V s a p =
     by_request SoundAfter V a (λ _. s) (λ _ _ _ _ _. s)
     (λ known held _ is one. sound-again V s a p known is a.usage refl held one)

@@ -35,11 +35,9 @@ use vault_refusal::refusal::Refusal;
 /// by 7, 8, 13 and 17, an Audit by 7 and 8. The first that applies is answered.
 pub fn decide(w: &Window, c: &Command) -> (Reply, Changes)
     requires { HasLivesInRange c.now }
-    // of whatever sound vault the window is, the decision is the command's outcome
     ensures settles { Decides w.now c.now result }
     // of whatever sound vault the window is, the changes fit it
     ensures fits { FitsVault w.now c.now result.1 }
-    // a refusal changes nothing, but that a denial is counted
     ensures refusals { RefusesQuietly c.now result.0 result.1 }
     // a View, an Audit, and a Tokenize that the window shows to be recorded change nothing
     ensures silent { WritesNothing w.now c.now → result.1 ≡ no_changes }
@@ -52,11 +50,9 @@ pub fn decide(w: &Window, c: &Command) -> (Reply, Changes)
 pub fn settle(w: &Window, parts: &Parts) -> (Reply, Changes)
     // all parts of the command are values of their types
     requires { IsProper (command_with parts.now) }
-    // of whatever sound vault the window is, the decision is the command's outcome
     ensures settles { Decides w.now (command_with parts.now) result }
     // of whatever sound vault the window is, the changes fit it
     ensures fits { FitsVault w.now (command_with parts.now) result.1 }
-    // a refusal changes nothing, but that a denial is counted
     ensures refusals { RefusesQuietly (command_with parts.now) result.0 result.1 }
     // a View, an Audit, and a Tokenize that the window shows to be recorded change nothing
     ensures silent { WritesNothing w.now (command_with parts.now) → result.1 ≡ no_changes }
@@ -68,9 +64,7 @@ pub fn settle(w: &Window, parts: &Parts) -> (Reply, Changes)
 fn by_kind(w: &Window, parts: &Parts) -> (Reply, Changes)
     // all parts of the command are values of their types
     requires { IsProper (command_with parts.now) }
-    // of whatever sound vault the window is, the decision is the command's outcome
     ensures settles { Decides w.now (command_with parts.now) result }
-    // a refusal changes nothing, but that a denial is counted
     ensures refusals { RefusesQuietly (command_with parts.now) result.0 result.1 }
     // a View, an Audit, and a Tokenize that the window shows to be recorded change nothing
     ensures silent { WritesNothing w.now (command_with parts.now) → result.1 ≡ no_changes }

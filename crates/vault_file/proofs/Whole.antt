@@ -30,8 +30,8 @@ use Rattle.vault_verdict.specs.Names.{IsForeign, IsMixed, IsOf, vault_names}
 use Rattle.vault_verdict.specs.Reading.{IsQuietWhere}
 use Rattle.vault_verdict.specs.declared.fault.OpenFault.{OpenFault}
 use Rattle.vault_verdict.specs.declared.fault.OpenFault.TheVariants.{WrongSchema, Store}
-use Rattle.vault_verdict.specs.declared.names.Holder.{Holder}
-use Rattle.vault_verdict.specs.declared.names.Holder.TheVariants as holder
+use Rattle.vault_verdict.specs.declared.owners.Holder.{Holder}
+use Rattle.vault_verdict.specs.declared.owners.Holder.TheVariants as holder
 
 -- the fault of a result, or this one
 fault_of : {V E : Type 0} → Result V E → E → E

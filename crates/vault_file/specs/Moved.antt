@@ -41,8 +41,8 @@ pub record TellsOld (image : Image) (why : NotOpened) : Type 0 where
   pub damaged : (rule : ℕ) → why ≡ Fault (Damaged rule) → HoldsSuch image (λ db. FindsBroken db rule)
   pub wrong : (n : ℤ) → why ≡ Fault (WrongSchema n) → HoldsSuch image (λ db. FindsVersion db n)
 
--- The same refusal is right: a sound vault isn't refused for its schema or its rows, in whatever version, half
--- moved, or as a stop may leave it.
+-- The same refusal is right: a sound vault isn't refused for its schema or its rows, in whatever version,
+-- half moved, or as a stop may leave it.
 pub record RefusesMove (image : Image) (why : NotOpened) : Type 0 where
   pub tells : TellsOld image why
   pub in_version : (v : Version) (V : Vault) → Sound V → KeepsIn v image V → IsNoVerdict why

@@ -11,7 +11,7 @@ ghost use Rattle.vault_verdict.specs.Names.{IsOf};
 use sqlite::{Connection, FileStore};
 use sqlite_disk::Disk;
 use vault_tables::versions::has_version;
-use vault_verdict::names::{Holder, holder_in};
+use vault_verdict::owners::{Holder, holder_in};
 
 /// What a crash leaves of a connection that is open is its last commit, and nothing else.
 pub(crate) fn settled<D: Disk + Drop>(conn: &Connection<FileStore<D>>)

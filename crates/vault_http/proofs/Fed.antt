@@ -5,7 +5,7 @@ use Rattle.std.proofs.lemmas.List.{length-map}
 use Rattle.std.specs.Io.KnownBytes.{Consumes}
 use Rattle.vault_wire.specs.Messages.{Request}
 use Rattle.vault_wire.specs.Parts.{Parts, parts_of}
-use Rattle.vault_wire.specs.Reading.{IsReading, Kept, TakesIn}
+use Rattle.vault_wire.specs.ReadingMessages.{IsReading, Kept, TakesIn}
 use Rattle.vault_engine.specs.Passing.{Passage}
 use Rattle.vault_engine.specs.Within.{AllAnswered}
 use Rattle.vault_engine.proofs.JoinedUnits.{Joins, joined}

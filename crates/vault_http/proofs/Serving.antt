@@ -8,7 +8,7 @@ use Rattle.std.proofs.lemmas.List.{length-map}
 use Rattle.vault_core.specs.Vault.{Vault as Content}
 use Rattle.vault_wire.specs.Messages.{Request, Reads, ReadsThen, print_message}
 use Rattle.vault_wire.specs.Parts.{Parts, parts_of}
-use Rattle.vault_wire.specs.Reading.{Kept, IsReading, ReadsTo}
+use Rattle.vault_wire.specs.ReadingMessages.{Kept, IsReading, ReadsTo}
 use Rattle.vault_wire.specs.declared.fault.WireFault.{WireFault}
 use Rattle.vault_wire.proofs.OpenFacts.{open_short}
 use Rattle.vault_wire.proofs.ReadingFacts.{reads_of}

@@ -10,7 +10,7 @@ use Rattle.vault_batch.specs.Batched.{lines}
 use Rattle.vault_batch.specs.Lines.{first_line}
 use Rattle.vault_batch.specs.Stops.{IsBatched}
 use Rattle.vault_batch.specs.declared.asker.Asker.{Asker}
-use Rattle.vault_batch.specs.declared.counts.Counts.{Counts}
+use Rattle.vault_batch.specs.declared.row_counts.Counts.{Counts}
 
 -- bytes that went out before a flush
 pub kept_after : (old mid new : Option (List ℕ)) (bs : List ℕ) → Appends old mid bs → Keeps mid new

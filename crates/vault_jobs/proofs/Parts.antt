@@ -18,11 +18,11 @@ use Rattle.vault_jobs.specs.Doing.{SettleEnds, ShowEnds, SweepEnds, TimedSweepEn
 use Rattle.vault_store.specs.declared.vault.Fault.TheVariants as vault
 use Rattle.vault_changes.specs.Grants.{CarriesAll, grants_at}
 use Rattle.std.specs.Global.{Vec}
-use Rattle.vault_merchants.specs.Listed.{Wanted}
+use Rattle.vault_merchants.specs.ListedMerchants.{Wanted}
 use Rattle.vault_rights.specs.Named.{Row}
 use Rattle.vault_jobs.specs.Tasks.{BreaksBy, FailsStore, HasNoTurns, IsTaskBegun, granted_line}
 use Rattle.vault_core.specs.Vault.{Vault as Content}
-use Rattle.vault_jobs.specs.Listing.{shown_text}
+use Rattle.vault_jobs.specs.ListingLines.{shown_text}
 use Rattle.vault_jobs.specs.declared.task.Task.{Task}
 use Rattle.vault_jobs.specs.declared.task.Task.TheVariants.{Change, Give, Settle, SetMerchants, Sweep, Serve}
 use Rattle.vault_jobs.specs.declared.task.Task.TheVariants.{Show}

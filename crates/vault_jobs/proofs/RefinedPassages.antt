@@ -16,7 +16,7 @@ use Rattle.vault_http.specs.declared.served.Served.{Served}
 use Rattle.vault_batch.specs.Asking.{rows_by}
 use Rattle.vault_batch.specs.Stops as batch
 use Rattle.vault_batch.specs.declared.asker.Asker.{Asker}
-use Rattle.vault_batch.specs.declared.counts.Counts.{Counts}
+use Rattle.vault_batch.specs.declared.row_counts.Counts.{Counts}
 use Rattle.vault_batch.specs.declared.fault.BatchFault.{BatchFault}
 use Rattle.vault_batch.specs.declared.fault.BatchFault.TheVariants as row
 use Rattle.vault_listen.specs.Live.{Turns}
@@ -24,7 +24,7 @@ use Rattle.vault_live.specs.Turns.{AllKept, Asking, Leaves, OneUndecided, Turn}
 use Rattle.vault_live.specs.Turns.Turn.{Lost, Served as Linked, Attended}
 use Rattle.vault_listen.specs.declared.fault.ListenFault.{ListenFault}
 use Rattle.vault_listen.specs.declared.fault.ListenFault.TheVariants as listen
-use Rattle.vault_merchants.specs.Listed.{Wanted}
+use Rattle.vault_merchants.specs.ListedMerchants.{Wanted}
 use Rattle.vault_rights.specs.Named.{Row}
 use Rattle.vault_store.specs.declared.vault.Fault.{Fault}
 use Rattle.vault_store.specs.declared.vault.Fault.TheVariants.{Memory, Store, Reopen}

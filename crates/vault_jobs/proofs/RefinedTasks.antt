@@ -9,7 +9,7 @@ use Rattle.vault_core.specs.Runs.{run}
 use Rattle.vault_jobs.specs.Doing.{BatchEnds, Does, serving_of}
 use Rattle.vault_jobs.specs.Doing.{ListedServeEnds, PipeEnds}
 use Rattle.vault_jobs.specs.Doing.{Works, behind}
-use Rattle.vault_jobs.specs.Listing.{shown_text}
+use Rattle.vault_jobs.specs.ListingLines.{shown_text}
 use Rattle.vault_changes.specs.Grants.{grants_at}
 use Rattle.vault_jobs.specs.Lists.{asked_of, begin_of}
 use Rattle.vault_jobs.specs.Outside.{Outside}

@@ -4,7 +4,7 @@ use Rattle.vault_engine.specs.Passing.{Passage}
 use Rattle.vault_batch.specs.Rows.{BeginRecordsOf, Fields, Row, records_with}
 use Rattle.vault_batch.specs.Stops.{IsBatched, Stops}
 use Rattle.vault_batch.specs.declared.asker.Asker.{Asker}
-use Rattle.vault_batch.specs.declared.counts.Counts.{Counts}
+use Rattle.vault_batch.specs.declared.row_counts.Counts.{Counts}
 use Rattle.vault_batch.specs.declared.fault.BatchFault.{BatchFault}
 use Rattle.vault_batch.specs.declared.fault.BatchFault.TheVariants.{Write}
 use Rattle.vault_jobs.specs.Streams.{Known}

@@ -11,11 +11,11 @@ use Rattle.vault_engine.specs.Passing.{IsBefore, Passage}
 use Rattle.vault_engine.specs.declared.stop.Stop.TheVariants as service
 use Rattle.vault_batch.specs.Stops.{IsBatched}
 use Rattle.vault_batch.specs.declared.asker.Asker.{Asker}
-use Rattle.vault_batch.specs.declared.counts.Counts.{Counts}
+use Rattle.vault_batch.specs.declared.row_counts.Counts.{Counts}
 use Rattle.vault_batch.specs.declared.fault.BatchFault.TheVariants as row
 use Rattle.vault_live.specs.Turns.{AreSaid, Asking, Leaves, Turn}
 use Rattle.vault_listen.specs.declared.fault.ListenFault.TheVariants as listener
-use Rattle.vault_merchants.specs.Listed.{Wanted}
+use Rattle.vault_merchants.specs.ListedMerchants.{Wanted}
 use Rattle.vault_rights.specs.Named.{Row}
 use Rattle.vault_store.specs.Listed.{merchant_rows}
 use Rattle.vault_store.specs.declared.vault.Fault.{Fault}
@@ -51,7 +51,7 @@ use Rattle.vault_jobs.specs.declared.task.Task.TheVariants.{Pipe, Serve, Show}
 use Rattle.vault_jobs.specs.declared.lists.Lists.{Lists}
 use Rattle.vault_changes.specs.declared.changes.Changes.{Changes}
 use Rattle.vault_changes.specs.Changes.{AreChangesOf, settled_line}
-use Rattle.vault_jobs.specs.Listing.{shown_text}
+use Rattle.vault_jobs.specs.ListingLines.{shown_text}
 use Rattle.vault_listen.specs.declared.fault.ListenFault.{ListenFault}
 
 -- the same passage of a vault, in which a writer took bytes too and a source gave these pairs

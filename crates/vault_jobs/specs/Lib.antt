@@ -4,7 +4,7 @@ pub mod Beginning
 pub mod Causes
 pub mod Doing
 pub mod Failing
-pub mod Listing
+pub mod ListingLines
 pub mod Lists
 pub mod Moments
 pub mod Notes

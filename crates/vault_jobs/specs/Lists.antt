@@ -4,7 +4,7 @@ use Rattle.std.specs.Prelude.{IsSomeAnd, string_bytes}
 use Rattle.vault_core.specs.Runs.{run}
 use Rattle.vault_core.specs.Vault.{Vault as Content}
 use Rattle.vault_core.specs.declared.command.Command.{Command}
-use Rattle.vault_merchants.specs.Listed.{AreListed, Wanted}
+use Rattle.vault_merchants.specs.ListedMerchants.{AreListed, Wanted}
 use Rattle.vault_live.specs.Following.{AreRowsIn, Asks}
 use Rattle.vault_live.specs.Kinds.{Naming, Wanting, merchants_changes, rights_changes}
 use Rattle.vault_live.specs.Sweeping.{AsksPurges}

@@ -4,7 +4,7 @@ ghost use Rattle.std.specs.List.{flat_map};
 ghost use Rattle.vault_core.specs.Words.{right_word};
 ghost use Rattle.vault_changes.specs.Changes.{change_line, changes_text as changes_text_of, right_text};
 ghost use Rattle.vault_changes.specs.Changes.{setting_text, until_text};
-ghost use Rattle.vault_jobs.specs.Listing.{merchant_line, right_line, until_value};
+ghost use Rattle.vault_jobs.specs.ListingLines.{merchant_line, right_line, until_value};
 
 use itoa::Buffer;
 use std::alloc::{AllocError, Global};

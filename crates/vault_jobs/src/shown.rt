@@ -5,7 +5,7 @@ ghost use Rattle.vault_store.specs.Applied.{is_broken};
 ghost use Rattle.vault_engine.specs.Passing.{IsBefore, Keeps, Passage, passage};
 ghost use Rattle.vault_changes.specs.Failing.{BreaksByStore};
 ghost use Rattle.vault_changes.specs.Settling.{FailsToRead};
-ghost use Rattle.vault_jobs.specs.Listing.{shown_text};
+ghost use Rattle.vault_jobs.specs.ListingLines.{shown_text};
 ghost use Rattle.vault_store.specs.LookUps.{WasHonest};
 
 use crate::show::{Form, Shown, changes_text, list_text};

@@ -8,7 +8,7 @@ ghost use Rattle.vault_jobs.specs.Outside.{outside};
 ghost use Rattle.vault_jobs.specs.Streams.{Seen, output_of, seen_over, streams};
 ghost use Rattle.vault_jobs.specs.Doing.{BatchEnds, CommandsEnd, Does, PipeEnds};
 ghost use Rattle.vault_jobs.specs.Doing.{SetEnds, SettleEnds, ShowEnds};
-ghost use Rattle.vault_jobs.specs.Listing.{shown_text};
+ghost use Rattle.vault_jobs.specs.ListingLines.{shown_text};
 ghost use Rattle.vault_changes.specs.Grants.{CarriesAll, grants_at};
 ghost use Rattle.vault_changes.specs.Settings.{HasLives};
 ghost use Rattle.vault_jobs.specs.Streams.{seen_with};

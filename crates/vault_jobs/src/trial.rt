@@ -4,7 +4,7 @@ ghost use Rattle.vault_core.specs.Proper.{HasLivesInRange};
 ghost use Rattle.vault_core.specs.Scalar.{IsLife};
 ghost use Rattle.vault_core.specs.Vault.{Vault as Content};
 ghost use Rattle.vault_store.specs.Applied.{Contains, is_broken};
-ghost use Rattle.vault_store.specs.Held.{IsHeld};
+ghost use Rattle.vault_store.specs.HeldInMemory.{IsHeld};
 ghost use Rattle.vault_wire.specs.Watching.{inner_of, is_stopped};
 ghost use Rattle.vault_jobs.specs.Failing.{GoesOn};
 ghost use Rattle.vault_jobs.specs.Causes.{IsCause};

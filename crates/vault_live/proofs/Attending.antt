@@ -31,8 +31,8 @@ use Rattle.vault_changes.specs.Moments.{is_merchant_behind}
 use Rattle.vault_core.specs.Keys.{Bytes}
 use Rattle.vault_live.specs.News.{IsSaidOf, is_idle}
 use Rattle.vault_live.specs.Turns.{AreAsked, Asking, Attends}
-use Rattle.vault_live.specs.declared.first.End.{End}
-use Rattle.vault_live.specs.declared.first.End.TheVariants as end
+use Rattle.vault_live.specs.declared.first_commands.End.{End}
+use Rattle.vault_live.specs.declared.first_commands.End.TheVariants as end
 use Rattle.vault_live.specs.declared.news.News.{News}
 use Rattle.vault_live.specs.declared.news.News.TheVariants.{Nothing, Changed, Set, Refused, Unread}
 use Rattle.vault_live.specs.declared.news.News.TheVariants.{Purged, Unswept, Waits}

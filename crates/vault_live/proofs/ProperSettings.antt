@@ -6,7 +6,7 @@ use Rattle.vault_core.specs.Name.{IsName}
 use Rattle.vault_core.specs.Proper.{AllProper}
 use Rattle.vault_core.specs.Scalar.{IsMoment}
 use Rattle.vault_core.specs.Vault.{Vault as Content}
-use Rattle.vault_merchants.specs.Listed.{AreListed, AreRowsOf, Wanted}
+use Rattle.vault_merchants.specs.ListedMerchants.{AreListed, AreRowsOf, Wanted}
 use Rattle.vault_store.specs.Listed.{merchant_rows}
 use Rattle.vault_changes.specs.Settings.{HasLives, Named, missing_merchants, settings_at, stands_in}
 use Rattle.vault_changes.specs.Settings.{wanted_at}

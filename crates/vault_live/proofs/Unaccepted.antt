@@ -16,7 +16,7 @@ use Rattle.vault_core.specs.declared.reply.Reply.TheVariants as answer
 use Rattle.vault_core.specs.declared.limit.TheConstants.{MOST_MERCHANTS}
 use Rattle.vault_core.specs.declared.right.Right.{Right}
 use Rattle.vault_core.specs.declared.row.Lives.{Lives}
-use Rattle.vault_merchants.specs.Listed.{Wanted}
+use Rattle.vault_merchants.specs.ListedMerchants.{Wanted}
 use Rattle.vault_rights.specs.Named.{Row}
 use Rattle.vault_store.specs.Listed.{merchant_rows}
 use Rattle.vault_changes.proofs.Purging.{refused_leaves}

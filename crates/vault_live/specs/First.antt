@@ -7,8 +7,8 @@ use Rattle.vault_core.specs.Vault.{Vault as Content}
 use Rattle.vault_core.specs.declared.command.Command.{Command}
 use Rattle.vault_core.specs.declared.reply.Reply.TheVariants as answer
 use Rattle.vault_engine.specs.Passing.{IsBefore, Keeps, Passage}
-use Rattle.vault_live.specs.declared.first.End.{End}
-use Rattle.vault_live.specs.declared.first.End.TheVariants.{All, Enough, Refused, Memory, Store}
+use Rattle.vault_live.specs.declared.first_commands.End.{End}
+use Rattle.vault_live.specs.declared.first_commands.End.TheVariants.{All, Enough, Refused, Memory, Store}
 
 -- the first so many of the commands are done, and the vault that they leave is kept
 abbrev pub AreKept : ℕ → List Command → Passage → Type 0

@@ -9,7 +9,7 @@ use Rattle.vault_core.specs.Proper.{AllProper}
 use Rattle.vault_core.specs.Vault.{Vault as Content}
 use Rattle.vault_core.specs.declared.command.Command.{Command}
 use Rattle.vault_listen.specs.Live.{Turns}
-use Rattle.vault_merchants.specs.Listed.{AreListed}
+use Rattle.vault_merchants.specs.ListedMerchants.{AreListed}
 use Rattle.vault_rights.specs.Faults.{IsDocument}
 use Rattle.vault_rights.specs.Named.{IsListOf, Names, Row}
 use Rattle.vault_rights.specs.Proper.{IsProper}

@@ -6,7 +6,7 @@ use Rattle.vault_core.specs.Vault.{Vault as Content}
 use Rattle.vault_core.specs.declared.command.Command.{Command}
 use Rattle.vault_core.specs.declared.reply.Reply.TheVariants as answer
 use Rattle.vault_merchants.specs.Faults as merchants
-use Rattle.vault_merchants.specs.Listed.{Wanted}
+use Rattle.vault_merchants.specs.ListedMerchants.{Wanted}
 use Rattle.vault_merchants.specs.declared.fault.MerchantsFault.{MerchantsFault}
 use Rattle.vault_refusal.specs.Refusal.{number_of}
 use Rattle.vault_refusal.specs.declared.refusal.Refusal.TheVariants.{NoMerchant}

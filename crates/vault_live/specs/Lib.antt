@@ -3,7 +3,7 @@ pub mod First
 pub mod Following
 pub mod Kinds
 pub mod Known
-pub mod Listed
+pub mod ListedTexts
 pub mod News
 pub mod Subject
 pub mod Sweeping

@@ -7,7 +7,7 @@ use Rattle.vault_core.specs.Proper.{AllProper}
 use Rattle.vault_core.specs.Vault.{Vault as Content}
 use Rattle.vault_core.specs.declared.command.Command.{Command}
 use Rattle.vault_listen.specs.Live.{Turns}
-use Rattle.vault_merchants.specs.Listed.{AreListed, Wanted}
+use Rattle.vault_merchants.specs.ListedMerchants.{AreListed, Wanted}
 use Rattle.vault_changes.specs.Moments.{is_merchant_ahead, is_merchant_behind}
 use Rattle.vault_changes.specs.Purges.{purges_of}
 use Rattle.vault_live.specs.Following.{AreSettled, Looks, Remembers}

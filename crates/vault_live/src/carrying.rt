@@ -7,7 +7,7 @@ ghost use Rattle.vault_live.specs.Carrying.{AsksRows, EndsSettled, news_in};
 ghost use Rattle.vault_live.specs.Turns.{Attends};
 ghost use Rattle.vault_store.specs.LookUps.{WasHonest};
 
-use crate::first::carry_first;
+use crate::first_commands::carry_first;
 use crate::kind::Kind;
 use crate::news::News;
 use crate::said::outcome;

@@ -7,7 +7,7 @@ ghost use Rattle.vault_changes.specs.Failing.{BreaksByStore};
 ghost use Rattle.vault_changes.specs.Grants.{AreDone};
 ghost use Rattle.vault_changes.specs.Settling.{FailsToRead};
 ghost use Rattle.vault_live.specs.Kinds.{AreSteps};
-ghost use Rattle.vault_live.specs.Listed.{IfFaulty, IfGood};
+ghost use Rattle.vault_live.specs.ListedTexts.{IfFaulty, IfGood};
 ghost use Rattle.vault_live.specs.News.{IsSaidOf};
 ghost use Rattle.vault_store.specs.LookUps.{WasHonest};
 

@@ -3,7 +3,7 @@
 
 mod carrying;
 pub mod desk;
-mod first;
+mod first_commands;
 pub mod follower;
 pub mod following;
 pub mod kind;

@@ -1,7 +1,7 @@
 //! What a text comes to as a list.
 ghost use Rattle.std.specs.Prelude.{◌≡◌, ◌⊎◌, [], None, Some, true};
 ghost use Rattle.vault_live.specs.Following.{MayFollow, has_end as has_end_line, in_force, pending_of};
-ghost use Rattle.vault_live.specs.Listed.{IfFaulty, IfGood, IfNone};
+ghost use Rattle.vault_live.specs.ListedTexts.{IfFaulty, IfGood, IfNone};
 
 use crate::follower::{Followed, has_end};
 use crate::kind::Kind;

@@ -39,7 +39,7 @@ fn count_set(commands: &[Command]) -> usize
 }
 
 impl Kind for Merchants {
-    ghost use Rattle.vault_merchants.specs.Listed.{AreListed};
+    ghost use Rattle.vault_merchants.specs.ListedMerchants.{AreListed};
     ghost use Rattle.vault_live.specs.Kinds.{HasMerchantsFault, merchants_changes};
     ghost use Rattle.vault_live.specs.declared.subject.Subject.TheVariants.{Merchants};
 

@@ -6,7 +6,7 @@ ghost use Rattle.vault_listen.specs.declared.fault.ListenFault.TheVariants.{Stor
 ghost use Rattle.vault_live.specs.First.{are_left};
 ghost use Rattle.vault_live.specs.News.{IsSaidOf};
 
-use crate::first::{Carried, End};
+use crate::first_commands::{Carried, End};
 use crate::kind::Kind;
 use crate::news::News;
 use vault_core::command::Command;

@@ -17,7 +17,7 @@ ghost use Rattle.vault_live.specs.Sweeping.{AsksFirst, IsDue};
 ghost use Rattle.vault_live.specs.Turns.{Attends};
 ghost use Rattle.vault_store.specs.LookUps.{WasHonest};
 
-use crate::first::{Carried, End, MOST, carry_first};
+use crate::first_commands::{Carried, End, MOST, carry_first};
 use crate::news::News;
 use vault_changes::moments::{is_far_ahead, is_far_behind, moment_of};
 use vault_changes::purges::Purges;

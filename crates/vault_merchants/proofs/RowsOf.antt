@@ -4,7 +4,7 @@ use Rattle.toml.specs.View.{view, members_view}
 use Rattle.toml.proofs.Views.{Entry}
 use Rattle.vault_rights.proofs.Members.{EachEntry}
 use Rattle.vault_merchants.specs.Faults.{IsProperMerchant}
-use Rattle.vault_merchants.specs.Listed.{AreRowsOf, IsRowOf, Wanted}
+use Rattle.vault_merchants.specs.ListedMerchants.{AreRowsOf, IsRowOf, Wanted}
 
 -- those of one member more
 pub rows_then : (done : List Entry) (e : Entry) (rows : List Wanted) (row : Wanted)

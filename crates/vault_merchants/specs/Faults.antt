@@ -8,7 +8,7 @@ use Rattle.vault_core.specs.Name.{IsName}
 use Rattle.vault_refusal.specs.declared.refusal.Refusal.{Refusal}
 use Rattle.vault_refusal.specs.declared.refusal.Refusal.TheVariants as refusal
 use Rattle.vault_rights.specs.Faults.{IsDocument, IsFirstFault}
-use Rattle.vault_merchants.specs.Listed.{AreLivesOf, IsRowOf, IsValueOf, Wanted}
+use Rattle.vault_merchants.specs.ListedMerchants.{AreLivesOf, IsRowOf, IsValueOf, Wanted}
 use Rattle.vault_merchants.specs.declared.fault.MerchantsFault.{MerchantsFault}
 use Rattle.vault_merchants.specs.declared.fault.MerchantsFault.TheVariants.{NotToml, BadName, WrongType}
 use Rattle.vault_merchants.specs.declared.fault.MerchantsFault.TheVariants.{Memory, BadLife}

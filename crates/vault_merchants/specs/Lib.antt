@@ -1,2 +1,2 @@
 pub mod Faults
-pub mod Listed
+pub mod ListedMerchants

@@ -4,7 +4,7 @@ ghost use Rattle.toml.specs.Data.{Members};
 ghost use Rattle.toml.specs.View.{table_view, view};
 ghost use Rattle.vault_rights.specs.Faults.{IsDocument};
 ghost use Rattle.vault_merchants.specs.Faults.{IsFault, IsListFault, IsMerchantFault};
-ghost use Rattle.vault_merchants.specs.Listed.{AreListed, AreRowsOf, IsRowOf};
+ghost use Rattle.vault_merchants.specs.ListedMerchants.{AreListed, AreRowsOf, IsRowOf};
 ghost use Rattle.vault_merchants.specs.declared.fault.MerchantsFault.TheVariants.{NotToml, Memory};
 
 use crate::fault::MerchantsFault;

@@ -14,7 +14,7 @@ use vault_sql::tables::SqlTables;
 use vault_steps::schema::make_schema;
 use vault_store::vault::Vault;
 use vault_verdict::fault::OpenFault;
-use vault_verdict::names::{Holder, holder_in};
+use vault_verdict::owners::{Holder, holder_in};
 use vault_verdict::verdict::newest_verdict;
 use vault_verdict::version::version_or;
 

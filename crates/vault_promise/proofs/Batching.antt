@@ -18,7 +18,7 @@ use Rattle.vault_batch.specs.Rows.{BeginRecordsOf, Fields, Row, fields_in, heade
 use Rattle.vault_batch.specs.Rows.{records_with}
 use Rattle.vault_batch.specs.Stops.{IsBatched, Stops}
 use Rattle.vault_batch.specs.declared.asker.Asker.{Asker}
-use Rattle.vault_batch.specs.declared.counts.Counts.{Counts}
+use Rattle.vault_batch.specs.declared.row_counts.Counts.{Counts}
 use Rattle.vault_batch.specs.declared.fault.BatchFault.{BatchFault}
 use Rattle.vault_batch.specs.declared.fault.BatchFault.TheVariants as fault
 use Rattle.vault_core.specs.Name.{IsName}

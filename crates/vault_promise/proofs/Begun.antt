@@ -10,7 +10,7 @@ use Rattle.vault_core.specs.Vault.{Vault as Content}
 use Rattle.vault_core.specs.declared.command.Command.{Command}
 use Rattle.vault_engine.specs.Passing.{IsBefore, Passage}
 use Rattle.vault_listen.specs.Live.{Turns}
-use Rattle.vault_merchants.specs.Listed.{Wanted}
+use Rattle.vault_merchants.specs.ListedMerchants.{Wanted}
 use Rattle.vault_rights.specs.Named.{Row}
 use Rattle.vault_store.specs.Listed.{merchant_rows}
 use Rattle.vault_store.specs.declared.vault.Fault.TheVariants.{Memory, Store, Reopen}
@@ -28,7 +28,7 @@ use Rattle.vault_jobs.specs.declared.task.Outcome.{Outcome as Ended}
 use Rattle.vault_jobs.specs.declared.task.Outcome.TheVariants as outcome
 use Rattle.vault_jobs.specs.declared.task.Task.{Task}
 use Rattle.vault_jobs.specs.declared.task.Task.TheVariants as task
-use Rattle.vault_app.specs.Values.{AreMerchantValues, AreRightValues, AreValues}
+use Rattle.vault_app.specs.TaskValues.{AreMerchantValues, AreRightValues, AreValues}
 use Rattle.vault_promise.proofs.ListedMerchants.{some_set}
 use Rattle.vault_promise.proofs.PipedMessages.{run_append}
 use Rattle.vault_promise.proofs.Proper.{proper-append}

@@ -8,7 +8,7 @@ use Rattle.vault_core.specs.Sound.{Sound}
 use Rattle.vault_core.specs.Vault.{Vault as Content}
 use Rattle.vault_engine.specs.Passing.{IsBefore, Passage}
 use Rattle.vault_store.specs.Listed.{merchant_rows}
-use Rattle.vault_merchants.specs.Listed.{Wanted}
+use Rattle.vault_merchants.specs.ListedMerchants.{Wanted}
 use Rattle.vault_changes.specs.Settings.{Named, missing_merchants, settings_at, stands_in, wanted_at}
 use Rattle.vault_listen.specs.Live.{Turns}
 use Rattle.vault_jobs.specs.Doing.{SetEnds}

@@ -9,7 +9,7 @@ use Rattle.vault_wire.specs.Parts.{Parts}
 use Rattle.vault_listen.specs.Live.{Turns}
 use Rattle.vault_live.specs.Turns.{Turn}
 use Rattle.vault_live.specs.Turns.Turn.{Lost, Served, Attended}
-use Rattle.vault_merchants.specs.Listed.{AreListed, Wanted}
+use Rattle.vault_merchants.specs.ListedMerchants.{AreListed, Wanted}
 use Rattle.vault_live.specs.Following.{AreRowsIn, AreSettled}
 use Rattle.vault_live.specs.Kinds.{Naming, Wanting, merchants_changes, rights_changes}
 use Rattle.vault_live.specs.Sweeping.{IsSweeper}

@@ -41,7 +41,7 @@ use Rattle.vault_app.specs.Jobs.{Does as DoesWords, DoesPlan, IsChecked, IsMoved
 use Rattle.vault_app.specs.Plans.{IsProperPlan, IsTaskOf, saying}
 use Rattle.vault_app.specs.Asked.{AsksFor, schema_line, sound_line}
 use Rattle.vault_app.specs.Ending.{IsDone}
-use Rattle.vault_app.specs.Values.{AreValues}
+use Rattle.vault_app.specs.TaskValues.{AreValues}
 use Rattle.vault_app.specs.World.{World, outside_in}
 use Rattle.vault_file.specs.Moved.{MovesAs, StaysUnmoved}
 use Rattle.vault_app.specs.Commands.Check.{TellsSizes}

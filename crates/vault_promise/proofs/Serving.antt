@@ -15,7 +15,7 @@ use Rattle.vault_http.specs.declared.served.Served.{Served as Ended}
 use Rattle.vault_listen.specs.Live.{Turns}
 use Rattle.vault_listen.specs.Peers.{Link}
 use Rattle.vault_listen.specs.Service.{Leads, link_from}
-use Rattle.vault_merchants.specs.Listed.{AreListed, Wanted}
+use Rattle.vault_merchants.specs.ListedMerchants.{AreListed, Wanted}
 use Rattle.vault_live.specs.Following.{AreRowsIn}
 use Rattle.vault_live.specs.Kinds.{Naming, Wanting, merchants_changes, rights_changes}
 use Rattle.vault_live.specs.Turns.{AllKept, AllTurn, AreAsked, Asking, OneUndecided, Turn}

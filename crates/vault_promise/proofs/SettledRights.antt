@@ -26,7 +26,7 @@ use Rattle.vault_changes.specs.Changes.{rights_of, surplus_rights, withdrawals_a
 use Rattle.vault_changes.specs.Settling.{FailsToRead}
 use Rattle.vault_jobs.specs.Doing.{ChangeEnds, SettleEnds, ShowEnds}
 use Rattle.vault_changes.specs.Grants.{grants_at}
-use Rattle.vault_jobs.specs.Listing.{shown_text}
+use Rattle.vault_jobs.specs.ListingLines.{shown_text}
 use Rattle.vault_jobs.specs.Streams.{Streams, output_with}
 use Rattle.vault_jobs.specs.declared.show.Shown.{Shown}
 use Rattle.vault_jobs.specs.declared.stop.Stop.{Stop}
@@ -34,7 +34,7 @@ use Rattle.vault_jobs.specs.declared.stop.Stop.TheVariants as stop
 use Rattle.vault_jobs.specs.declared.task.Outcome.{Outcome as Ended}
 use Rattle.vault_jobs.specs.declared.task.Outcome.TheVariants as outcome
 use Rattle.vault_jobs.specs.declared.task.Task.TheVariants as task
-use Rattle.vault_app.specs.Values.{IsOwn}
+use Rattle.vault_app.specs.TaskValues.{IsOwn}
 use Rattle.vault_promise.proofs.Proper.{proper-append}
 use Rattle.vault_promise.proofs.TaskAnswers.{Works, change_works, commands_works}
 use Rattle.vault_promise.specs.Told.{IsQuiet, Tells}

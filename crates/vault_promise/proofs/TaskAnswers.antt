@@ -35,7 +35,7 @@ use Rattle.vault_jobs.specs.declared.task.Task.{Task}
 use Rattle.vault_jobs.specs.declared.task.Task.TheVariants as task
 use Rattle.vault_promise.specs.Runs.{perhaps}
 use Rattle.vault_promise.specs.Told.{AllDone, AreFirst, IsNext, IsQuiet, Tells}
-use Rattle.vault_app.specs.Values.{IsOwn}
+use Rattle.vault_app.specs.TaskValues.{IsOwn}
 
 -- From this vault a task answered commands, of which alone it told; and of one more at most it isn't known
 -- whether it is done. Where the task is done, it tells so.

@@ -6,7 +6,7 @@ use Rattle.vault_jobs.specs.declared.task.Task.{Task}
 use Rattle.clap.specs.Words.{Text}
 use Rattle.vault_words.specs.declared.jobs.Job.{Job}
 use Rattle.vault_words.specs.declared.jobs.Job.TheVariants as job
-use Rattle.vault_merchants.specs.Listed.{Wanted}
+use Rattle.vault_merchants.specs.ListedMerchants.{Wanted}
 use Rattle.vault_rights.specs.Named.{Row}
 use Rattle.vault_jobs.specs.declared.lists.ListFile.{ListFile}
 use Rattle.vault_app.specs.Followed.{IsFollowed, IsRefusedAt, RefusesMerchants, RefusesRights}

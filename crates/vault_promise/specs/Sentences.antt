@@ -34,7 +34,7 @@ use Rattle.vault_changes.specs.Grants.{AreDone, grants_at}
 use Rattle.vault_changes.specs.Settings.{settings_at}
 use Rattle.vault_store.specs.Listed.{merchant_rows}
 use Rattle.vault_jobs.specs.Lists.{begin_of}
-use Rattle.vault_jobs.specs.Listing.{shown_text}
+use Rattle.vault_jobs.specs.ListingLines.{shown_text}
 use Rattle.vault_jobs.specs.Ahead.{MaySweep}
 use Rattle.vault_jobs.specs.Streams.{Streams}
 use Rattle.vault_jobs.specs.Sweeps.{AreSwept, purges_at}

@@ -31,7 +31,7 @@ use Rattle.vault_changes.specs.Changes.{changes_at, rights_of}
 use Rattle.vault_changes.specs.Grants.{AreDone, grants_at}
 use Rattle.vault_changes.specs.Settings.{settings_at}
 use Rattle.vault_store.specs.Listed.{merchant_rows}
-use Rattle.vault_jobs.specs.Listing.{shown_text}
+use Rattle.vault_jobs.specs.ListingLines.{shown_text}
 use Rattle.vault_jobs.specs.Lists.{asked_of, begin_of}
 use Rattle.vault_jobs.specs.Outside.{Outside, outside}
 use Rattle.vault_jobs.specs.Streams.{Streams}

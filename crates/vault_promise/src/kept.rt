@@ -16,7 +16,7 @@ use sqlite_disk::{Crash, Disk, Memory};
 use std::alloc::Global;
 use vault_file::reopen::close;
 use vault_recover::reopen::open_files;
-use vault_verdict::names::{Holder, holder_in};
+use vault_verdict::owners::{Holder, holder_in};
 
 /// The files of a vault in memory, as runs of the program left them, and a stop perhaps.
 #[derive(Drop)]

@@ -26,9 +26,7 @@ pub fn open_files<D: Disk + Drop>(
     alloc: Global,
     files: Files<D>,
 ) -> Option<Connection<FileStore<D>>>
-    // the connection is outside a transaction
     ensures idle { IfSome result (λ c. c.in_transaction ≡ false) }
-    // its statements may take any number of steps
     ensures unlimited { IfSome result (λ c. c.step_limit ≡ None) }
     // on an honest disk, the connection was just opened over the bytes of the files, and found what they hold
     ensures opened { IfSome result (λ c. HasCleanDisk (file_state c) → IsOpenOf (image_of D.Disk files) c) }
@@ -92,9 +90,7 @@ pub fn open_path<S: Start>(
     start: S,
     cache: Cache,
 ) -> Option<Connection<FileStore<FileFrom<S>>>>
-    // the connection is outside a transaction
     ensures idle { IfSome result (λ c. c.in_transaction ≡ false) }
-    // its statements may take any number of steps
     ensures unlimited { IfSome result (λ c. c.step_limit ≡ None) }
     // on an honest disk, the connection was just opened over the bytes of the files, and found what they hold
     ensures opened { IfSome result (λ c. HasCleanDisk (file_state c) → IsOpenOf (image_at S.Start) c) }

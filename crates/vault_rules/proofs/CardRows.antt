@@ -13,7 +13,7 @@ use Rattle.vault_rules.proofs.Numbers.{int_same}
 use Rattle.vault_rules.proofs.Options.{mapped_is}
 use Rattle.vault_rules.proofs.Places.{position_mapped, position_step}
 use Rattle.vault_rules.specs.declared.card_rows.Card.{Card}
-use Rattle.vault_rules.specs.Held.{HoldCards, seen_card}
+use Rattle.vault_rules.specs.HeldRows.{HoldCards, seen_card}
 use Rattle.vault_rules.specs.Kept.{KeptCard, is_used, kept_card, place_of, short_text}
 use Rattle.vault_rules.specs.Packed.{key_number, packed}
 use Rattle.vault_rules.specs.Texts.{is_number, is_pan}

@@ -1,7 +1,7 @@
 -- An entry beside the rows that it names.
 use Rattle.std.specs.Prelude.{◌≡◌, List, option_and_then, option_map, string_bytes}
 use Rattle.std.specs.Option.{option_copied}
-use Rattle.vault_rules.specs.Held.{seen_card}
+use Rattle.vault_rules.specs.HeldRows.{seen_card}
 use Rattle.vault_rules.specs.Kept.{kept_card}
 use Rattle.vault_rules.specs.Lookups.{card_of, merchant_of}
 use Rattle.vault_rules.specs.declared.index.found.Found.{Found}

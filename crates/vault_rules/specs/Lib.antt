@@ -1,7 +1,7 @@
 pub mod AllRows
 pub mod Codes
 pub mod Found
-pub mod Held
+pub mod HeldRows
 pub mod Index
 pub mod Kept
 pub mod Lookups

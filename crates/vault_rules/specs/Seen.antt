@@ -4,7 +4,7 @@ use Rattle.std.specs.Prelude.{unwrap_or}
 use Rattle.std.specs.List.{filter_map, list_all, list_any}
 use Rattle.vault_core.specs.Keys.{Bytes}
 use Rattle.vault_rules.specs.AllRows.{Rows}
-use Rattle.vault_rules.specs.Held.{HoldCards}
+use Rattle.vault_rules.specs.HeldRows.{HoldCards}
 use Rattle.vault_rules.specs.Index.{at_pair, at_text, has_pair}
 use Rattle.vault_rules.specs.Kept.{place_of}
 use Rattle.vault_rules.specs.Lookups.{entry_of, held_by, is_known, used_by}

@@ -69,7 +69,7 @@ pub struct Cards<'a> {
 }
 
 impl<'a> Cards<'a> {
-    ghost use Rattle.vault_rules.specs.Held.{HoldCards, seen_card};
+    ghost use Rattle.vault_rules.specs.HeldRows.{HoldCards, seen_card};
 
     /// None came yet.
     pub(crate) fn new(alloc: Global) -> Cards<'a>

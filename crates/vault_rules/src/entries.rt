@@ -31,7 +31,7 @@ pub struct Entries<'a> {
 }
 
 impl<'a> Entries<'a> {
-    ghost use Rattle.vault_rules.specs.Held.{HoldCards};
+    ghost use Rattle.vault_rules.specs.HeldRows.{HoldCards};
     ghost use Rattle.vault_rules.specs.Seen.{HasEntries};
 
     /// None came yet.

@@ -31,7 +31,7 @@ pub struct Index<'a> {
 
 impl<'a> Index<'a> {
     ghost use Rattle.vault_rules.specs.Found.{IsFoundIn};
-    ghost use Rattle.vault_rules.specs.Held.{HoldCards};
+    ghost use Rattle.vault_rules.specs.HeldRows.{HoldCards};
 
     /// Makes the maps of the rows; no card came yet. Only memory can fail.
     pub fn of(

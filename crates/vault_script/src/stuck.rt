@@ -1,7 +1,7 @@
 //! Tables that can't be written.
 ghost use Rattle.std.proofs.Common.{inl, inr};
 ghost use Rattle.std.specs.Prelude.{◌≡◌, ◌⊎◌, false, true};
-ghost use Rattle.vault_store.specs.Held.{IsHeld};
+ghost use Rattle.vault_store.specs.HeldInMemory.{IsHeld};
 
 use vault_core::changes::Changes;
 use vault_core::moment::Moment;

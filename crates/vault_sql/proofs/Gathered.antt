@@ -12,7 +12,7 @@ use Rattle.sqlite.specs.declared.types.Value.TheVariants.{Int}
 use Rattle.sqlite_rules.proofs.ListLemmas.{has_either, has_left, has_right}
 use Rattle.sqlite_rules.specs.Lists.{Has}
 use Rattle.vault_core.proofs.Maps.{tied}
-use Rattle.vault_sql.specs.Listed.{ShowsAll}
+use Rattle.vault_sql.specs.ListedRows.{ShowsAll}
 use Rattle.vault_sql.specs.Gathered.{Gathers}
 
 module _ {K Y : Type 0} {cmp : K → K → Ordering} (Shows : Row → K → Y → Type 0) where

@@ -24,7 +24,7 @@ use Rattle.sql_tables.proofs.Keys.{coding}
 use Rattle.sql_tables.specs.Maps.{claim_at}
 use Rattle.sql_tables.proofs.Plain.{claimed}
 use Rattle.sql_tables.proofs.Reading.{reads_long}
-use Rattle.vault_sql.specs.Listed.{ShowsAll}
+use Rattle.vault_sql.specs.ListedRows.{ShowsAll}
 
 one_longer : (r row : Row) (n : ℤ) → r ≡ Int n ∷ row → length row < length r
 one_longer r row n is = let long = ap length is in omega (arith, long)

@@ -10,7 +10,7 @@ use Rattle.vault_core.specs.Keys.{Bytes, bytes_cmp, right_cmp}
 use Rattle.vault_core.specs.Vault.{Merchant, Vault, merchant_at}
 use Rattle.vault_core.specs.declared.right.Right.{Right}
 use Rattle.vault_core.specs.declared.row.GrantRow.{GrantRow}
-use Rattle.vault_sql.specs.Listed.{ShowsAll, ShowsRight}
+use Rattle.vault_sql.specs.ListedRows.{ShowsAll, ShowsRight}
 use Rattle.vault_schema.proofs.RightCodes.{right_coding}
 use Rattle.vault_core.specs.Lives.{lives_in}
 use Rattle.vault_schema.specs.Merchants.{merchant_row}

@@ -6,7 +6,7 @@ pub mod Gathered
 pub mod Held
 pub mod KnownCounts
 pub mod KnownLives
-pub mod Listed
+pub mod ListedRows
 pub mod Places
 pub mod Remembered
 pub mod Storable

@@ -3,7 +3,7 @@
 
 mod entries;
 mod merchants;
-mod names;
+mod name_lists;
 pub mod place;
 mod records;
 pub mod remembered;

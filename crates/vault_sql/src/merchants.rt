@@ -7,7 +7,7 @@ ghost use Rattle.vault_core.specs.Vault.{merchant_at};
 ghost use Rattle.vault_core.specs.Window.{moment_at, row_at};
 ghost use Rattle.vault_sql.specs.Calls.{Tells};
 ghost use Rattle.vault_schema.specs.Values.{number_column};
-ghost use Rattle.vault_sql.specs.Listed.{ShowsAll};
+ghost use Rattle.vault_sql.specs.ListedRows.{ShowsAll};
 ghost use Rattle.vault_schema.specs.Merchants.{merchant_row};
 ghost use Rattle.vault_sql.specs.Counts.{IsTotalOf, ShowsCounts};
 ghost use Rattle.vault_core.specs.Lives.{lives_in};

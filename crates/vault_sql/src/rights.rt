@@ -3,7 +3,7 @@ ghost use Rattle.std.specs.FinMap as map;
 ghost use Rattle.std.specs.Prelude.{◌≡◌, IfOk};
 ghost use Rattle.vault_core.specs.Keys.{right_cmp};
 ghost use Rattle.vault_core.specs.Vault.{Vault, right_at};
-ghost use Rattle.vault_sql.specs.Listed.{ShowsAll, ShowsRight};
+ghost use Rattle.vault_sql.specs.ListedRows.{ShowsAll, ShowsRight};
 ghost use Rattle.vault_schema.specs.Rights.{right_row};
 ghost use Rattle.vault_sql.specs.Gathered.{Gathers};
 ghost use Rattle.vault_sql.specs.Calls.{Tells};

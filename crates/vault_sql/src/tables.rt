@@ -3,7 +3,7 @@ ghost use Rattle.std.specs.Prelude.{◌≡◌, true, false, Err};
 
 use crate::entries::{current, entry};
 use crate::merchants::{all_merchants, how_many, merchant_and_rowid};
-use crate::names::names_in;
+use crate::name_lists::names_in;
 use crate::place::{Place, place_after, place_of};
 use crate::records::recorded;
 use crate::remembered::Remembered;

@@ -43,7 +43,6 @@ fn is_blank(schema: &Schema) -> bool
 
 /// Makes the tables of schema 1, inside a transaction.
 fn create_first<S: Alter>(tx: &mut Transaction<'_, S>) -> Result<(), Error>
-    // the transaction is over the same connection, and on an honest disk a crash leaves nothing new
     ensures goes_on { Proceeds S.Store tx.old tx.new }
     // with Ok, on an honest disk, a transaction in a database without a table got the rowless tables of
     // schema 1
@@ -63,7 +62,6 @@ fn create_first<S: Alter>(tx: &mut Transaction<'_, S>) -> Result<(), Error>
 
 /// Makes the tables that schema 2 has besides, inside a transaction.
 fn create_second<S: Alter>(tx: &mut Transaction<'_, S>) -> Result<(), Error>
-    // the transaction is over the same connection, and on an honest disk a crash leaves nothing new
     ensures goes_on { Proceeds S.Store tx.old tx.new }
     // with Ok, on an honest disk, the rowless tables of schema 1 became those of schema 2, over the same last
     // commit
@@ -78,7 +76,6 @@ fn create_second<S: Alter>(tx: &mut Transaction<'_, S>) -> Result<(), Error>
 
 /// Makes the tables that later schemas have besides and writes the version, inside a transaction.
 fn create_last<S: Alter>(tx: &mut Transaction<'_, S>) -> Result<(), Error>
-    // the transaction is over the same connection, and on an honest disk a crash leaves nothing new
     ensures goes_on { Proceeds S.Store tx.old tx.new }
     // with Ok, on an honest disk, the rowless tables of schema 2 became the newest, which stand for the empty
     // vault
@@ -94,7 +91,6 @@ fn create_last<S: Alter>(tx: &mut Transaction<'_, S>) -> Result<(), Error>
 
 /// Makes all tables and writes the version, inside a transaction.
 fn create_tables<S: Alter>(tx: &mut Transaction<'_, S>) -> Result<(), Error>
-    // the transaction is over the same connection, and on an honest disk a crash leaves nothing new
     ensures goes_on { Proceeds S.Store tx.old tx.new }
     // with Ok, on an honest disk, a transaction in a database without a table got tables that stand for the
     // empty vault
@@ -109,11 +105,8 @@ fn create_tables<S: Alter>(tx: &mut Transaction<'_, S>) -> Result<(), Error>
 
 /// Makes all tables of the empty vault in one transaction.
 fn create_all<S: Alter>(conn: &mut Connection<S>) -> Result<(), Error>
-    // the connection is outside a transaction
     requires idle { conn.old.in_transaction ≡ false }
-    // the connection is outside a transaction
     ensures idle { conn.new.in_transaction ≡ false }
-    // a disk that is honest after the call was so before it
     ensures clean { KeepsDoubts S.Store conn.old conn.new }
     // with Ok, on an honest disk, where there was no table, a ready connection holds the empty vault
     ensures done { HasCleanDisk (state S.Store conn.new)
@@ -133,11 +126,8 @@ fn create_all<S: Alter>(conn: &mut Connection<S>) -> Result<(), Error>
 /// Makes the tables of the empty vault in a database that has no tables, indexes or views. What a crash
 /// leaves is the database as it was, or the empty vault.
 pub fn make_schema<S: Alter>(conn: &mut Connection<S>) -> Result<(), SchemaFault>
-    // the connection is outside a transaction
     requires idle { conn.old.in_transaction ≡ false }
-    // the connection is outside a transaction
     ensures idle { conn.new.in_transaction ≡ false }
-    // a disk that is honest after the call was so before it
     ensures clean { KeepsDoubts S.Store conn.old conn.new }
     // with Ok, there was no table, index or view
     ensures blank { OnOk result ((state S.Store conn.old).now.schema ≡ no_schema) }

@@ -1,6 +1,6 @@
 -- The tables in memory, taken apart and put together.
 use Rattle.vault_core.specs.Vault.{Vault}
-use Rattle.vault_store.specs.Held.{IsHeld}
+use Rattle.vault_store.specs.HeldInMemory.{IsHeld}
 use Rattle.vault_store.specs.HeldEntries.{HoldsEntries}
 use Rattle.vault_store.specs.Written.{HoldsRecords}
 use Rattle.vault_store.specs.declared.memory.MemTables.{MemTables}

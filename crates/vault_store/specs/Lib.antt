@@ -1,6 +1,6 @@
 pub mod Added
 pub mod Applied
-pub mod Held
+pub mod HeldInMemory
 pub mod HeldEntries
 pub mod Index
 pub mod Left
@@ -8,7 +8,7 @@ pub mod Listed
 pub mod LookUps
 pub mod Live
 pub mod Reads
-pub mod Rows
+pub mod ReadRows
 pub mod Shown
 pub mod ShownMerchants
 pub mod Written

@@ -3,7 +3,7 @@
 
 pub mod listing;
 pub mod memory;
-pub mod names;
+pub mod merchant_names;
 pub mod right_rows;
 pub mod tables;
 pub mod vault;

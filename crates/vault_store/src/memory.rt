@@ -12,7 +12,7 @@ mod rights;
 mod rows;
 mod write;
 
-use crate::names::names_of;
+use crate::merchant_names::names_of;
 use crate::right_rows::rows_of;
 use crate::tables::{RightRow, Tables, TablesFault};
 use crate::window::moment_of;
@@ -41,7 +41,7 @@ pub struct MemTables {
 }
 
 impl MemTables {
-    ghost use Rattle.vault_store.specs.Held.{IsHeld};
+    ghost use Rattle.vault_store.specs.HeldInMemory.{IsHeld};
 
     /// Tables of the empty vault, which take no memory yet.
     pub fn new(alloc: Global) -> MemTables
@@ -58,7 +58,7 @@ impl MemTables {
 }
 
 impl Tables for MemTables {
-    ghost use Rattle.vault_store.specs.Held.{IsHeld};
+    ghost use Rattle.vault_store.specs.HeldInMemory.{IsHeld};
 
     ghost holds = { IsHeld };
 

@@ -7,7 +7,7 @@ ghost use Rattle.vault_core.specs.Parts.{AsksByRight, command_with};
 ghost use Rattle.vault_core.specs.Repeats.{current, record_with_entry, reusable as reusable_lem};
 ghost use Rattle.vault_core.specs.Vault.{Vault, entitled};
 ghost use Rattle.vault_core.specs.Window.{IsWindow, ShowsRequest, ShowsToken, moment_at};
-ghost use Rattle.vault_store.specs.Rows.{row_moment};
+ghost use Rattle.vault_store.specs.ReadRows.{row_moment};
 
 use crate::tables::{Tables, TablesFault};
 use vault_core::command::{Command, TokenCommand, TokenRequest};

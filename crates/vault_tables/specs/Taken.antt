@@ -1,6 +1,6 @@
 -- What takes rows, and what it took.
 use Rattle.std.specs.Prelude.{List, ◌≡◌, []}
-use Rattle.vault_rules.specs.Held.{HoldCards}
+use Rattle.vault_rules.specs.HeldRows.{HoldCards}
 use Rattle.vault_rules.specs.Seen.{HasEntries, HasRecords}
 use Rattle.vault_rules.specs.declared.entries.Entries.{Entries}
 use Rattle.vault_rules.specs.declared.index.Index.{Index}

@@ -9,12 +9,13 @@ use Rattle.vault_schema.specs.Versioned.{HasVersion}
 use Rattle.vault_schema.specs.declared.version.Version.{Version}
 use Rattle.vault_verdict.proofs.Judged.{AreRead, all_of, are_read}
 use Rattle.vault_verdict.specs.Faults.{IsJudged}
-use Rattle.vault_verdict.specs.Judging.{AreOnward, IsUnjudged, IsVerdictOf, Judges, JudgesAll, first_rows, sizes_in}
+use Rattle.vault_verdict.specs.Judging.{AreOnward, IsUnjudged, IsVerdictOf, Judges, JudgesAll, first_rows}
+use Rattle.vault_verdict.specs.Judging.{sizes_in}
 use Rattle.vault_verdict.specs.Opened.{AreVersions}
 use Rattle.vault_verdict.specs.ReadAs.{IsFullIn}
 use Rattle.vault_verdict.specs.Reading.{AreCardsIn, AreFirst, IsUnreadOne}
 use Rattle.vault_verdict.specs.declared.fault.OpenFault.{OpenFault}
-use Rattle.vault_verdict.specs.declared.first.First.{First}
+use Rattle.vault_verdict.specs.declared.first_rows.First.{First}
 use Rattle.vault_tables.specs.declared.entries.old.OldEntry.{OldEntry}
 use Rattle.vault_verdict.specs.declared.sizes.Sizes.{Sizes}
 use Rattle.vault_verdict.specs.declared.verdict.Judged.{Judged}

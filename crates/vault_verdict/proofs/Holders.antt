@@ -8,7 +8,7 @@ use Rattle.vault_core.specs.declared.row.Entry.{Entry}
 use Rattle.vault_core.specs.declared.row.Record.{Record}
 use Rattle.vault_verdict.specs.Names.{IsOf}
 use Rattle.vault_verdict.specs.Sizes.{sizes_of}
-use Rattle.vault_verdict.specs.declared.names.Holder.{Holder}
+use Rattle.vault_verdict.specs.declared.owners.Holder.{Holder}
 use Rattle.vault_verdict.specs.declared.sizes.Sizes.{Sizes}
 
 -- what was told of the schema that is read holds of the database's

@@ -36,7 +36,7 @@ use Rattle.vault_verdict.specs.Judging.{AreOnward, first_rows}
 use Rattle.vault_verdict.specs.Reading.{AreCardsIn, AreEntriesIn, AreFirst}
 use Rattle.vault_verdict.specs.Reading.{AreOldCards, ArePointingFull, IsOurs}
 use Rattle.sql_tables.specs.Reading.{AreLonger, AreTable, IsAny}
-use Rattle.vault_verdict.specs.declared.first.First.{First}
+use Rattle.vault_verdict.specs.declared.first_rows.First.{First}
 use Rattle.vault_tables.specs.declared.entries.old.OldEntry.{OldEntry}
 use Rattle.vault_schema.specs.Versions.{has_cards, number_of, schema_of}
 use Rattle.vault_schema.specs.Layers.{Either}

@@ -5,8 +5,8 @@ use Rattle.std.specs.Option.{is_some}
 use Rattle.sqlite.specs.Schema.{Schema}
 use Rattle.sqlite_schema.specs.Names.{table_named, index_named, view_named}
 use Rattle.sql_tables.specs.Schema.{no_schema}
-use Rattle.vault_verdict.specs.declared.names.Holder.{Holder}
-use Rattle.vault_verdict.specs.declared.names.Holder.TheVariants.{Nobody, Vault, Mixed, Other}
+use Rattle.vault_verdict.specs.declared.owners.Holder.{Holder}
+use Rattle.vault_verdict.specs.declared.owners.Holder.TheVariants.{Nobody, Vault, Mixed, Other}
 use Rattle.vault_schema.specs.Schema.{newest_schema}
 use Rattle.vault_schema.specs.declared.version.TheConstants.{NAMES}
 

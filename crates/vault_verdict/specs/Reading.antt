@@ -22,13 +22,13 @@ use Rattle.vault_verdict.specs.ReadAs.{AreFull, AreMerchantsFull, AreRightsFull,
 use Rattle.vault_verdict.specs.ReadAs.{merchants_in, merchants_text, replaced_in, rights_in, rights_text}
 use Rattle.vault_tables.specs.Taken.{CardsTaken, EntriesTaken}
 use Rattle.vault_verdict.specs.declared.behind.Behind.{Behind}
-use Rattle.vault_verdict.specs.declared.first.First.{First}
-use Rattle.vault_verdict.specs.declared.read.WithCards.{WithCards}
+use Rattle.vault_verdict.specs.declared.first_rows.First.{First}
+use Rattle.vault_verdict.specs.declared.whole_tables.WithCards.{WithCards}
 use Rattle.sql_tables.specs.Reading.{AreLonger, AreTable, IsAny, IsUnread}
 use Rattle.sql_tables.specs.declared.fault.StoreFault.{StoreFault}
 use Rattle.sql_tables.specs.declared.fault.StoreFault.TheVariants.{Store}
 use Rattle.vault_rules.specs.declared.rows.RawCard.{RawCard}
-use Rattle.vault_rules.specs.Held.{HoldCards}
+use Rattle.vault_rules.specs.HeldRows.{HoldCards}
 use Rattle.vault_rules.specs.Seen.{HasEntries, HasRecords}
 use Rattle.vault_rules.specs.declared.entries.Entries.{Entries}
 use Rattle.vault_rules.specs.declared.index.Index.{Index}

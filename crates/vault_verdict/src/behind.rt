@@ -9,7 +9,7 @@ ghost use Rattle.vault_schema.specs.Versions.{schema_of};
 ghost use Rattle.vault_rules.specs.declared.rows.RawEntry.{RawEntry as EntryRow};
 ghost use Rattle.vault_rules.specs.declared.rows.RawRecord.{RawRecord as RecordRow};
 
-use crate::read;
+use crate::whole_tables;
 use sql_tables::fault::StoreFault;
 use sqlite::{Alter, Connection};
 use std::alloc::Global;
@@ -42,8 +42,8 @@ fn taken<'a, S: Alter>(
         × AreTaken version db olders.now start.entry it entries records)
         (IsUnreadOne S.Store version) }
 {
-    let entries = read::entries(alloc, conn, version, olders, start)?;
-    read::records(conn, Records::new(entries))
+    let entries = whole_tables::entries(alloc, conn, version, olders, start)?;
+    whole_tables::records(conn, Records::new(entries))
 }
 
 /// The rows of a version behind those that entries name, as those of the newest one.
@@ -70,8 +70,8 @@ pub(crate) fn read_behind<'a, S: Alter>(
     ensures reads { Reads (schema_of version) result (state S.Store conn.old) (state S.Store conn.new) }
 {
     let records = taken(alloc, conn, version, olders, Entries::new(alloc, index))?;
-    let rights = read::rights(alloc, conn, version)?;
-    let replaced = read::replaced(alloc, conn, version)?;
+    let rights = whole_tables::rights(alloc, conn, version)?;
+    let replaced = whole_tables::replaced(alloc, conn, version)?;
     Ok(Behind {
         records,
         rights,

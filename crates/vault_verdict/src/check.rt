@@ -13,7 +13,7 @@ ghost use Rattle.vault_verdict.specs.Refusals.{LeavesVersionSeen, RefusesForeign
 ghost use Rattle.vault_schema.specs.Versioned.{HasVersion};
 
 use crate::fault::OpenFault;
-use crate::names::{Holder, holder_in};
+use crate::owners::{Holder, holder_in};
 use crate::sizes::Sizes;
 use crate::verdict::newest_verdict;
 use crate::version::version_or;

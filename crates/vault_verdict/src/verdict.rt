@@ -11,17 +11,17 @@ ghost use Rattle.vault_verdict.specs.ReadAs.{IsFullIn};
 ghost use Rattle.vault_verdict.specs.Reading.{IsOurs, IsQuiet};
 ghost use Rattle.vault_verdict.specs.Reading.{IsUnreadIn};
 ghost use Rattle.vault_verdict.specs.Judging.{Judges, JudgesAll};
-ghost use Rattle.vault_rules.specs.Held.{HoldCards};
+ghost use Rattle.vault_rules.specs.HeldRows.{HoldCards};
 ghost use Rattle.vault_rules.specs.declared.rows.RawCard.{RawCard as CardRow};
 ghost use Rattle.vault_schema.specs.Schema.{newest_schema};
 ghost use Rattle.vault_schema.specs.Versions.{newest, schema_of};
 
 use crate::behind::read_behind;
 use crate::fault::OpenFault;
-use crate::first::{First, read_first};
+use crate::first_rows::{First, read_first};
 use crate::judge::{judge, other_in};
-use crate::read::{self, WithCards, version_rows};
 use crate::sizes::Sizes;
+use crate::whole_tables::{self, WithCards, version_rows};
 use sqlite::{Alter, Connection};
 use std::alloc::Global;
 use vault_rules::index::Index;
@@ -81,7 +81,7 @@ fn judge_cards<'a, S: Alter>(
     // transaction begins
     ensures nothing_new { IsStill S.Store version conn.old conn.new }
 {
-    let WithCards { olders, index } = read::cards(alloc, conn, version, index)?;
+    let WithCards { olders, index } = whole_tables::cards(alloc, conn, version, index)?;
     let sizes = judge_behind(alloc, conn, version, versions, &olders, index)?;
     Ok(Judged { sizes, olders })
 }

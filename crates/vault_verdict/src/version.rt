@@ -10,7 +10,7 @@ ghost use Rattle.vault_schema.specs.Versioned.{HasVersion};
 
 use crate::fault::OpenFault;
 use crate::judge::other_version;
-use crate::read::version_rows;
+use crate::whole_tables::version_rows;
 use sqlite::{Alter, Connection};
 use std::alloc::Global;
 use vault_rules::rows::RawVersion;

@@ -3,7 +3,7 @@ use Rattle.std.proofs.Common.{◌≡◌, ℕ, ◌-◌, List, ◌++◌, length, t
 use Rattle.std.proofs.lemmas.List.{take_rest}
 use Rattle.std.proofs.Math.Seq.{take-append_seam}
 use Rattle.vault_wire.specs.Messages.{Ends, Request, ReadsThen}
-use Rattle.vault_wire.specs.Reading.{ReadsTo, Waits}
+use Rattle.vault_wire.specs.ReadingMessages.{ReadsTo, Waits}
 use Rattle.vault_wire.specs.declared.fault.WireFault.{WireFault}
 
 -- what is behind the last whole message waits, while there is no fault

@@ -18,7 +18,7 @@ use Rattle.vault_words.specs.Commands.Pipe.{AsksPipe}
 use Rattle.vault_words.specs.Commands.Trial.{AsksTrial}
 use Rattle.vault_words.specs.Jobs.{AsksBy, Explains, StandsFor}
 use Rattle.vault_words.specs.Commands.{Asks, program_app}
-use Rattle.vault_words.specs.Values.{Finds}
+use Rattle.vault_words.specs.WordValues.{Finds}
 use Rattle.vault_words.specs.declared.commands.batch.BatchJob.{BatchJob}
 use Rattle.vault_words.specs.declared.commands.pipe.PipeJob.{PipeJob}
 use Rattle.vault_words.specs.declared.commands.trial.TrialJob.{TrialJob}

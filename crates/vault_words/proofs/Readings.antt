@@ -15,8 +15,8 @@ use Rattle.clap.proofs.WalkLemmas.{first_value-rows, one_text-rows}
 use Rattle.vault_words.specs.Digits.{IsDigitText}
 use Rattle.vault_pan.specs.Mask.{lead_digits}
 use Rattle.vault_pan.specs.declared.lead.Lead.{Lead}
-use Rattle.vault_words.specs.Values.{Finds, HasConnections, HasDigits, HasFlag, HasLead, HasMaybeText}
-use Rattle.vault_words.specs.Values.{HasMoment, HasNumber, HasPort, HasText, IsLeftOut, Writes}
+use Rattle.vault_words.specs.WordValues.{Finds, HasConnections, HasDigits, HasFlag, HasLead, HasMaybeText}
+use Rattle.vault_words.specs.WordValues.{HasMoment, HasNumber, HasPort, HasText, IsLeftOut, Writes}
 
 -- what holds where there is no value
 pub none_found : {T E : Type 0} (r : Result T E) (P : T → Type 0) → IsErr r → ((x : T) → ¬ (P x))

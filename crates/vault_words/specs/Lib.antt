@@ -2,5 +2,5 @@ pub mod Commands
 pub mod Digits
 pub mod Jobs
 pub mod Rules
-pub mod Values
+pub mod WordValues
 pub mod Why

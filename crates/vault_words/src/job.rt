@@ -3,7 +3,7 @@ ghost use Rattle.std.specs.Prelude.{MatchResult, map};
 ghost use Rattle.clap.specs.Words.{kind_of, subcommand_rows_of};
 ghost use Rattle.vault_words.specs.Commands.{program_app};
 ghost use Rattle.vault_words.specs.Jobs.{AsksBy, Explains, IsAsked, StandsFor};
-ghost use Rattle.vault_words.specs.Values.{Finds};
+ghost use Rattle.vault_words.specs.WordValues.{Finds};
 
 use crate::jobs::{Job, JobFault};
 use crate::tree::{job_of, tree};

@@ -3,7 +3,7 @@ ghost use Rattle.std.specs.Prelude.{IfOk};
 ghost use Rattle.clap.specs.Words.{App, found_of, rows_of, with_subcommand};
 ghost use Rattle.vault_words.specs.Commands.{Asks, program_app, root_app};
 ghost use Rattle.vault_words.specs.Rules.{IsApp};
-ghost use Rattle.vault_words.specs.Values.{Finds};
+ghost use Rattle.vault_words.specs.WordValues.{Finds};
 
 use crate::args::command;
 use crate::commands::batch::{BatchJob, batch};

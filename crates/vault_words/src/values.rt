@@ -1,9 +1,9 @@
 //! The values that a subcommand was given.
 ghost use Rattle.std.specs.Prelude.{IsTrue, option_map, ◌↔◌};
 ghost use Rattle.clap.specs.Words.{found_of, rows_of};
-ghost use Rattle.vault_words.specs.Values.{Finds, HasConnections, HasDigits, HasFlag, HasLead, HasLife};
-ghost use Rattle.vault_words.specs.Values.{HasMaybeText, HasMoment};
-ghost use Rattle.vault_words.specs.Values.{HasNow, HasNumber, HasPort, HasText, HasUntil, IsLeftOut};
+ghost use Rattle.vault_words.specs.WordValues.{Finds, HasConnections, HasDigits, HasFlag, HasLead, HasLife};
+ghost use Rattle.vault_words.specs.WordValues.{HasMaybeText, HasMoment};
+ghost use Rattle.vault_words.specs.WordValues.{HasNow, HasNumber, HasPort, HasText, HasUntil, IsLeftOut};
 
 use crate::digits::drawn;
 use clap::ArgMatches;

@@ -1,7 +1,7 @@
 -- `merchants`: the merchants that a list has.
 use Rattle.std.specs.Prelude.{◌≡◌, ℕ, None, if◌then◌else◌}
 use Rattle.std.specs.Global.{Vec}
-use Rattle.vault_merchants.specs.Listed.{Wanted}
+use Rattle.vault_merchants.specs.ListedMerchants.{Wanted}
 use Rattle.vault_words.specs.declared.commands.merchants.MerchantsJob.{MerchantsJob}
 use Rattle.vault_jobs.specs.Moments.{IsMomentOf}
 use Rattle.vault_jobs.specs.declared.show.Shown.TheVariants as show

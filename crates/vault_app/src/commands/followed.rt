@@ -8,7 +8,7 @@ ghost use Rattle.vault_app.specs.Followed.{EndsUnfollowed, IsFollowed, RefusesMe
 ghost use Rattle.vault_app.specs.Followed.{HasNoMoment};
 ghost use Rattle.vault_app.specs.Merchants.{AreMerchantsIn};
 ghost use Rattle.vault_app.specs.Rights.{IsListedIn};
-ghost use Rattle.vault_app.specs.Values.{AreMerchantValues, AreRightValues};
+ghost use Rattle.vault_app.specs.TaskValues.{AreMerchantValues, AreRightValues};
 ghost use Rattle.vault_app.specs.World.{said};
 
 use crate::commands::merchants::read_text as read_merchants_text;

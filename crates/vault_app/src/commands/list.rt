@@ -2,7 +2,7 @@
 ghost use Rattle.vault_words.specs.declared.jobs.Job.{Job};
 ghost use Rattle.vault_app.specs.Plans.{IsTaskOf};
 ghost use Rattle.vault_app.specs.World.{untold};
-ghost use Rattle.vault_app.specs.Values.{AreValues};
+ghost use Rattle.vault_app.specs.TaskValues.{AreValues};
 
 use vault_jobs::show::{Form, Shown};
 use vault_jobs::task::Task;

@@ -4,7 +4,7 @@ ghost use Rattle.vault_core.specs.Scalar.{IsLife};
 ghost use Rattle.vault_words.specs.declared.jobs.Job.{Job};
 ghost use Rattle.vault_app.specs.World.{told};
 ghost use Rattle.vault_app.specs.Plans.{ComesToTask};
-ghost use Rattle.vault_app.specs.Values.{AreValues};
+ghost use Rattle.vault_app.specs.TaskValues.{AreValues};
 
 use crate::ending::Ending;
 use crate::placeholder::Placeholder;

@@ -5,7 +5,7 @@ ghost use Rattle.vault_app.specs.World.{said};
 ghost use Rattle.vault_app.specs.Plans.{ComesToTask};
 ghost use Rattle.vault_app.specs.Commands.Merchants.{merchants_task};
 ghost use Rattle.vault_app.specs.Merchants.{AreMerchantsIn, AreMerchantsOf, EndsWithoutMerchants};
-ghost use Rattle.vault_app.specs.Values.{AreValues};
+ghost use Rattle.vault_app.specs.TaskValues.{AreValues};
 
 use crate::ending::Ending;
 use std::io::ErrorKind;

@@ -5,7 +5,7 @@ ghost use Rattle.vault_words.specs.declared.jobs.Job.{Job};
 ghost use Rattle.vault_app.specs.World.{told};
 ghost use Rattle.vault_app.specs.Plans.{ComesToTask};
 ghost use Rattle.vault_app.specs.Asked.{AreNames, MisnamesRight};
-ghost use Rattle.vault_app.specs.Values.{AreValues};
+ghost use Rattle.vault_app.specs.TaskValues.{AreValues};
 
 use crate::ending::Ending;
 use crate::placeholder::Placeholder;

@@ -3,7 +3,7 @@ ghost use Rattle.std.specs.Prelude.{IfOk};
 ghost use Rattle.vault_words.specs.declared.jobs.Job.{Job};
 ghost use Rattle.vault_app.specs.Plans.{ComesToTask};
 ghost use Rattle.vault_app.specs.World.{said};
-ghost use Rattle.vault_app.specs.Values.{AreValues};
+ghost use Rattle.vault_app.specs.TaskValues.{AreValues};
 
 use crate::commands::followed::{merchants_at, rights_at};
 use crate::ending::Ending;

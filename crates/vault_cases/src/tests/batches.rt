@@ -5,8 +5,8 @@ mod streams;
 
 use std::alloc::Global;
 use vault_batch::batch::batch;
-use vault_batch::counts::Counts;
 use vault_batch::fault::BatchFault;
+use vault_batch::row_counts::Counts;
 use vault_core::name::{Caller, MerchantId};
 use vault_core::source::{FixedSource, Source};
 use vault_script::case::filled;

@@ -19,9 +19,7 @@ use vault_refusal::refusal::Refusal;
 pub fn set_merchant(w: &Window, merchant: MerchantId, handed: Lives) -> (Reply, Changes)
     requires single { IsLife handed.single_life }
     requires multi { IsLife handed.multi_life }
-    // of whatever sound vault the window is, the decision is the command's outcome
     ensures settles { Decides w.now (setting merchant handed) result }
-    // a refusal changes nothing, but that a denial is counted
     ensures refusals { RefusesQuietly (setting merchant handed) result.0 result.1 }
 {
     let moment = match w.merchant {
@@ -52,9 +50,7 @@ pub fn grant(
     until: Option<Moment>,
     now: Moment,
 ) -> (Reply, Changes)
-    // of whatever sound vault the window is, the decision is the command's outcome
     ensures settles { Decides w.now (Command.Grant caller merchant right until now) result }
-    // a refusal changes nothing, but that a denial is counted
     ensures refusals { RefusesQuietly (Command.Grant caller merchant right until now) result.0 result.1 }
 {
     let Some(row) = w.merchant else {
@@ -78,9 +74,7 @@ pub fn withdraw(
     right: Right,
     now: Moment,
 ) -> (Reply, Changes)
-    // of whatever sound vault the window is, the decision is the command's outcome
     ensures settles { Decides w.now (Command.Withdraw caller merchant right now) result }
-    // a refusal changes nothing, but that a denial is counted
     ensures refusals { RefusesQuietly (Command.Withdraw caller merchant right now) result.0 result.1 }
 {
     let Some(row) = w.merchant else {

@@ -21,9 +21,7 @@ use vault_refusal::refusal::Refusal;
 
 /// A card number is asked for.
 pub fn detokenize(w: &Window, asked: &TokenCommand) -> (Reply, Changes)
-    // of whatever sound vault the window is, the decision is the command's outcome
     ensures settles { Decides w.now (command_by Command.Detokenize asked.now) result }
-    // a refusal changes nothing, but that a denial is counted
     ensures refusals { RefusesQuietly (command_by Command.Detokenize asked.now) result.0 result.1 }
 {
     let Some(row) = w.merchant else {

@@ -12,9 +12,7 @@ use vault_refusal::refusal::Refusal;
 
 /// A token's life is ended.
 pub fn revoke(w: &Window, asked: &TokenCommand) -> (Reply, Changes)
-    // of whatever sound vault the window is, the decision is the command's outcome
     ensures settles { Decides w.now (command_by Command.Revoke asked.now) result }
-    // a refusal changes nothing, but that a denial is counted
     ensures refusals { RefusesQuietly (command_by Command.Revoke asked.now) result.0 result.1 }
 {
     let Some(row) = w.merchant else {
@@ -44,9 +42,7 @@ pub fn revoke(w: &Window, asked: &TokenCommand) -> (Reply, Changes)
 
 /// A token's card number is purged; everything else of its entry stays.
 pub fn purge(w: &Window, asked: &TokenCommand) -> (Reply, Changes)
-    // of whatever sound vault the window is, the decision is the command's outcome
     ensures settles { Decides w.now (command_by Command.Purge asked.now) result }
-    // a refusal changes nothing, but that a denial is counted
     ensures refusals { RefusesQuietly (command_by Command.Purge asked.now) result.0 result.1 }
 {
     let Some(row) = w.merchant else {

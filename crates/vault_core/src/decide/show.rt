@@ -16,9 +16,7 @@ use vault_refusal::refusal::Refusal;
 
 /// A token is asked about.
 pub fn view(w: &Window, asked: &TokenCommand) -> (Reply, Changes)
-    // of whatever sound vault the window is, the decision is the command's outcome
     ensures settles { Decides w.now (command_by Command.View asked.now) result }
-    // a refusal changes nothing, but that a denial is counted
     ensures refusals { RefusesQuietly (command_by Command.View asked.now) result.0 result.1 }
     // nothing changes
     ensures silent { result.1 ≡ no_changes }
@@ -48,9 +46,7 @@ pub fn view(w: &Window, asked: &TokenCommand) -> (Reply, Changes)
 
 /// A merchant's counts are asked for.
 pub fn audit(w: &Window, caller: Caller, merchant: MerchantId, now: Moment) -> (Reply, Changes)
-    // of whatever sound vault the window is, the decision is the command's outcome
     ensures settles { Decides w.now (Command.Audit caller merchant now) result }
-    // a refusal changes nothing, but that a denial is counted
     ensures refusals { RefusesQuietly (Command.Audit caller merchant now) result.0 result.1 }
     // nothing changes
     ensures silent { result.1 ≡ no_changes }

@@ -20,9 +20,7 @@ use vault_refusal::refusal::Refusal;
 
 /// A token is asked for.
 pub fn tokenize(w: &Window, asked: &TokenRequest) -> (Reply, Changes)
-    // of whatever sound vault the window is, the decision is the command's outcome
     ensures settles { Decides w.now (command_of asked.now) result }
-    // a refusal changes nothing, but that a denial is counted
     ensures refusals { RefusesQuietly (command_of asked.now) result.0 result.1 }
     // a request that the window shows to be recorded changes nothing
     ensures repeats { IsSome w.now.recorded → result.1 ≡ no_changes }
@@ -61,7 +59,6 @@ fn new_request(w: &Window, asked: &TokenRequest, row: &MerchantRow) -> (Reply, C
     ensures yields { (V : Vault) (known : Merchant)
         → ShowsMerchant V asked.now known w.now row.now
         → Yields V (new_request_lem V asked.now known) result }
-    // a refusal changes nothing, but that a denial is counted
     ensures refusals { RefusesQuietly (command_of asked.now) result.0 result.1 }
 {
     if !w.right {

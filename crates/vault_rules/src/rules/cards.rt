@@ -2,7 +2,7 @@
 ghost use Rattle.std.specs.Prelude.{◌≡◌, ◌&&◌, List, is_some, true};
 ghost use Rattle.std.specs.List.{list_all};
 ghost use Rattle.vault_rules.specs.Found.{WhereFound};
-ghost use Rattle.vault_rules.specs.Held.{seen_card};
+ghost use Rattle.vault_rules.specs.HeldRows.{seen_card};
 ghost use Rattle.vault_rules.specs.Kept.{is_used};
 ghost use Rattle.vault_rules.specs.Lookups.{card_of};
 ghost use Rattle.vault_rules.specs.Rules as rules;

@@ -2,7 +2,7 @@
 use Rattle.std.specs.Prelude.{List, [], ◌∷◌, codes}
 use Rattle.clap.specs.Words.{App, Row, new_app}
 use Rattle.vault_words.specs.Rules.{flag_rule, text_rule, with_rules}
-use Rattle.vault_words.specs.Values.{HasFlag, HasText}
+use Rattle.vault_words.specs.WordValues.{HasFlag, HasText}
 use Rattle.vault_words.specs.declared.commands.list.ListJob.{ListJob}
 
 -- list [--json] FILE

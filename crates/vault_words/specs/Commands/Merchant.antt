@@ -4,7 +4,7 @@ use Rattle.clap.specs.Words.{App, Row, new_app}
 use Rattle.vault_core.specs.Lives.{handed_lives}
 use Rattle.vault_core.specs.declared.row.Lives.{Lives}
 use Rattle.vault_words.specs.Rules.{lead_rule, now_rule, number_rule, text_rule, with_rules}
-use Rattle.vault_words.specs.Values.{HasLead, HasLife, HasNow, HasText}
+use Rattle.vault_words.specs.WordValues.{HasLead, HasLife, HasNow, HasText}
 use Rattle.vault_words.specs.declared.commands.merchant.MerchantJob.{MerchantJob}
 
 -- merchant [--now T] [--lead L] FILE NAME SINGLE MULTI

@@ -2,7 +2,7 @@
 use Rattle.std.specs.Prelude.{List, [], ◌∷◌, codes}
 use Rattle.clap.specs.Words.{App, Row, new_app}
 use Rattle.vault_words.specs.Rules.{flag_rule, now_rule, text_rule, with_rules}
-use Rattle.vault_words.specs.Values.{HasFlag, HasNow, HasText}
+use Rattle.vault_words.specs.WordValues.{HasFlag, HasNow, HasText}
 use Rattle.vault_words.specs.declared.commands.merchants.MerchantsJob.{MerchantsJob}
 
 -- merchants [--now T] [--dry-run] FILE LIST

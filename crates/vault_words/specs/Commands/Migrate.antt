@@ -2,7 +2,7 @@
 use Rattle.std.specs.Prelude.{List, [], ◌∷◌, codes}
 use Rattle.clap.specs.Words.{App, Row, new_app}
 use Rattle.vault_words.specs.Rules.{text_rule, with_rules}
-use Rattle.vault_words.specs.Values.{HasText}
+use Rattle.vault_words.specs.WordValues.{HasText}
 use Rattle.vault_words.specs.declared.commands.migrate.MigrateJob.{MigrateJob}
 
 -- migrate FILE

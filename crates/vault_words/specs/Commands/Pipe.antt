@@ -2,7 +2,7 @@
 use Rattle.std.specs.Prelude.{List, [], ◌∷◌, codes}
 use Rattle.clap.specs.Words.{App, Row, new_app}
 use Rattle.vault_words.specs.Rules.{digits_rule, now_rule, text_rule, with_rules}
-use Rattle.vault_words.specs.Values.{HasDigits, HasNow, HasText}
+use Rattle.vault_words.specs.WordValues.{HasDigits, HasNow, HasText}
 use Rattle.vault_words.specs.declared.commands.pipe.PipeJob.{PipeJob}
 
 -- pipe [--now T] [--digits D] FILE

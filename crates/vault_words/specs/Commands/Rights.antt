@@ -2,7 +2,7 @@
 use Rattle.std.specs.Prelude.{List, [], ◌∷◌, codes}
 use Rattle.clap.specs.Words.{App, Row, Rule, new_app}
 use Rattle.vault_words.specs.Rules.{now_rule, text_rule, until_rule, with_rules}
-use Rattle.vault_words.specs.Values.{HasNow, HasText, HasUntil}
+use Rattle.vault_words.specs.WordValues.{HasNow, HasText, HasUntil}
 use Rattle.vault_words.specs.declared.commands.rights.GrantJob.{GrantJob}
 use Rattle.vault_words.specs.declared.commands.rights.RightJob.{RightJob}
 

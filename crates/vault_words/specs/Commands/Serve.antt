@@ -2,7 +2,7 @@
 use Rattle.std.specs.Prelude.{List, [], ◌∷◌, option_map, codes}
 use Rattle.clap.specs.Words.{App, Row, new_app}
 use Rattle.vault_words.specs.Rules.{number_option, text_option, text_rule, with_rules}
-use Rattle.vault_words.specs.Values.{HasConnections, HasMaybeText, HasPort, HasText}
+use Rattle.vault_words.specs.WordValues.{HasConnections, HasMaybeText, HasPort, HasText}
 use Rattle.vault_words.specs.declared.commands.serve.ServeJob.{ServeJob}
 
 -- serve [--connections N] [--port P] [--rights RIGHTS] [--merchants LIST] FILE

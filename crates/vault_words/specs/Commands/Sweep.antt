@@ -2,7 +2,7 @@
 use Rattle.std.specs.Prelude.{List, [], ◌∷◌, codes}
 use Rattle.clap.specs.Words.{App, Row, new_app}
 use Rattle.vault_words.specs.Rules.{now_rule, text_rule, with_rules}
-use Rattle.vault_words.specs.Values.{HasNow, HasText}
+use Rattle.vault_words.specs.WordValues.{HasNow, HasText}
 use Rattle.vault_words.specs.declared.commands.sweep.SweepJob.{SweepJob}
 
 -- sweep [--now T] FILE CALLER MERCHANT

@@ -2,7 +2,7 @@
 use Rattle.std.specs.Prelude.{List, [], ◌∷◌, codes}
 use Rattle.clap.specs.Words.{App, Row, new_app}
 use Rattle.vault_words.specs.Rules.{digits_rule, now_rule, number_rule, text_rule, with_rules}
-use Rattle.vault_words.specs.Values.{HasDigits, HasLife, HasNow, HasText}
+use Rattle.vault_words.specs.WordValues.{HasDigits, HasLife, HasNow, HasText}
 use Rattle.vault_words.specs.declared.commands.trial.TrialJob.{TrialJob}
 
 -- trial [--now T] [--digits D] CALLER MERCHANT LIFE

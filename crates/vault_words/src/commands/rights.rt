@@ -4,7 +4,7 @@ ghost use Rattle.clap.specs.Words.{App, found_of, rows_of};
 ghost use Rattle.vault_words.specs.Commands.Rights.{AsksGrant, AsksRight};
 ghost use Rattle.vault_words.specs.Commands.Rights.{grant_app, right_rules, withdraw_app};
 ghost use Rattle.vault_words.specs.Rules.{IsApp, with_rules};
-ghost use Rattle.vault_words.specs.Values.{Finds};
+ghost use Rattle.vault_words.specs.WordValues.{Finds};
 
 use crate::args::{self, add};
 use crate::values::{self, BadValue};

@@ -3,7 +3,7 @@ ghost use Rattle.std.specs.Prelude.{IfOk};
 ghost use Rattle.clap.specs.Words.{found_of, rows_of};
 ghost use Rattle.vault_words.specs.Commands.Sweep.{AsksSweep, sweep_app};
 ghost use Rattle.vault_words.specs.Rules.{IsApp};
-ghost use Rattle.vault_words.specs.Values.{Finds};
+ghost use Rattle.vault_words.specs.WordValues.{Finds};
 
 use crate::args::{self, add};
 use crate::values::{self, BadValue};

@@ -8,7 +8,7 @@ use Rattle.vault_engine.proofs.JoinedUnits.{Joins, answered_then, then_before}
 use Rattle.vault_batch.specs.Asking.{Asked, rows_by}
 use Rattle.vault_batch.specs.Batched.{rows_of, tokens}
 use Rattle.vault_batch.specs.Lines.{first_line, has_token}
-use Rattle.vault_batch.specs.Reading.{StandsAfter, StandsNext}
+use Rattle.vault_batch.specs.ReadingRecords.{StandsAfter, StandsNext}
 use Rattle.vault_batch.specs.Rows.{BeginRecordsOf, Fields, fields_in, records_with, row_of}
 use Rattle.vault_batch.proofs.TokenCounts.{counts_one, first_answered, one_at_most, tokens-more, tokens-nil}
 use Rattle.vault_batch.proofs.BatchStops.{beside_writer, records_more, stops_at_row}

@@ -7,7 +7,7 @@ use Rattle.vault_engine.specs.Stops.{failures}
 use Rattle.vault_batch.specs.Asking.{Asked}
 use Rattle.vault_batch.specs.Batched.{Answered, rows_of, tokens}
 use Rattle.vault_batch.specs.Lines.{first_line}
-use Rattle.vault_batch.specs.Reading.{StandsAfter}
+use Rattle.vault_batch.specs.ReadingRecords.{StandsAfter}
 use Rattle.vault_batch.specs.Rows.{records_with}
 use Rattle.vault_batch.proofs.batch.answer_rows.Given as goal
 

@@ -1,6 +1,6 @@
 use Rattle.std.proofs.Common.{[], inr, subst}
 use Rattle.csv.specs.Records.{fields_of}
-use Rattle.vault_batch.specs.Reading.{StandsNext}
+use Rattle.vault_batch.specs.ReadingRecords.{StandsNext}
 use Rattle.vault_batch.proofs.ReaderProgress.{begins_given}
 use Rattle.vault_batch.proofs.batch.begin.Goals as goal
 

@@ -4,7 +4,7 @@ use Rattle.std.proofs.lemmas.List.{length-map, length-take}
 use Rattle.std.specs.Prelude.{Bool, Ok, Err}
 use Rattle.vault_store.specs.Applied.{is_broken}
 use Rattle.vault_wire.specs.Parts.{parts_of}
-use Rattle.vault_wire.specs.Reading.{Kept}
+use Rattle.vault_wire.specs.ReadingMessages.{Kept}
 use Rattle.vault_wire.specs.Watching.{is_stopped}
 use Rattle.vault_engine.specs.Passing.{giving, passage, sending}
 use Rattle.vault_engine.proofs.Answering.{appends_nothing}

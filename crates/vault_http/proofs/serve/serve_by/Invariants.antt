@@ -2,7 +2,7 @@ use Rattle.std.proofs.Common.{◌≡◌, ℕ, ◌+◌, ◌*◌, ◌-◌, List, [
 use Rattle.std.specs.Io.KnownBytes.{Consumes}
 use Rattle.vault_store.specs.Applied.{is_broken, tables_of}
 use Rattle.vault_wire.specs.Messages.{Request}
-use Rattle.vault_wire.specs.Reading.{IsReading}
+use Rattle.vault_wire.specs.ReadingMessages.{IsReading}
 use Rattle.vault_wire.specs.Watching.{is_stopped}
 use Rattle.vault_http.specs.Exchanges.{has_close, message_kind, shown}
 use Rattle.vault_http.specs.Faults.{failures}

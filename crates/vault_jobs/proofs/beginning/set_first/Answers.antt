@@ -3,7 +3,7 @@ use Rattle.vault_engine.specs.Passing.{Passage, passage}
 use Rattle.vault_core.specs.Vault.{Vault as Content}
 use Rattle.vault_changes.specs.Carried.{Verdict}
 use Rattle.vault_changes.specs.Settings.{Sets, settings_at}
-use Rattle.vault_merchants.specs.Listed.{Wanted}
+use Rattle.vault_merchants.specs.ListedMerchants.{Wanted}
 use Rattle.vault_store.specs.Listed.{merchant_rows}
 use Rattle.vault_store.specs.declared.vault.Fault.{Fault}
 use Rattle.vault_live.specs.Kinds.{merchants_changes}

@@ -2,7 +2,7 @@ use Rattle.std.proofs.Common.{◌≡◌, ◌⊎◌, false, true}
 use Rattle.std.specs.Option.{option_map_or}
 use Rattle.std.specs.Prelude.{IsSomeAnd}
 use Rattle.vault_engine.specs.Passing.{passage}
-use Rattle.vault_merchants.specs.Listed.{AreListed}
+use Rattle.vault_merchants.specs.ListedMerchants.{AreListed}
 use Rattle.vault_live.specs.Following.{AreRowsIn, Asks}
 use Rattle.vault_live.specs.Kinds.{merchants_changes, rights_changes}
 use Rattle.vault_live.specs.Sweeping.{AsksPurges}

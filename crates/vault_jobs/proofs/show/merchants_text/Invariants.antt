@@ -1,6 +1,6 @@
 use Rattle.std.proofs.Common.{◌≡◌, take}
 use Rattle.std.specs.List.{flat_map}
-use Rattle.vault_jobs.specs.Listing.{merchant_line}
+use Rattle.vault_jobs.specs.ListingLines.{merchant_line}
 use Rattle.vault_jobs.proofs.show.merchants_text.Given as goal
 
 abbrev pub invariant-loop-it : goal.invariant-loop-it

@@ -1,6 +1,6 @@
 use Rattle.std.proofs.Common.{inr}
 use Rattle.vault_batch.specs.Stops.{IsBatched}
-use Rattle.vault_batch.specs.declared.counts.Counts.{Counts}
+use Rattle.vault_batch.specs.declared.row_counts.Counts.{Counts}
 use Rattle.vault_engine.specs.Passing.{Passage, giving, passage, sending}
 use Rattle.vault_listen.specs.Live.{AreGiven, pairs_of}
 use Rattle.vault_jobs.proofs.VaultPassages.{along_live}

@@ -1,7 +1,7 @@
 use Rattle.std.proofs.Common.{◌⊎◌}
 use Rattle.vault_core.specs.Vault.{Vault as Content}
 use Rattle.vault_listen.specs.Live.{AreGiven, pairs_of}
-use Rattle.vault_store.specs.Held.{IsHeld}
+use Rattle.vault_store.specs.HeldInMemory.{IsHeld}
 use Rattle.vault_engine.specs.Passing.{Passage, giving, sending, vault_passing}
 use Rattle.vault_jobs.specs.Streams.{Known}
 use Rattle.vault_jobs.specs.Trial.{IsCut, trial_vault}

@@ -6,7 +6,7 @@ use Rattle.toml.specs.View.{members_view, view}
 use Rattle.vault_rights.proofs.Members.{Ascend, first-fault}
 use Rattle.vault_rights.specs.Faults.{IsFirstFault}
 use Rattle.vault_merchants.specs.Faults.{IsMerchantFault, IsProperMerchant}
-use Rattle.vault_merchants.specs.Listed.{AreRowsOf, IsRowOf}
+use Rattle.vault_merchants.specs.ListedMerchants.{AreRowsOf, IsRowOf}
 use Rattle.vault_merchants.proofs.RowsOf.{rows_proper, rows_then}
 use Rattle.vault_merchants.proofs.read.read_members.Goals as goal
 

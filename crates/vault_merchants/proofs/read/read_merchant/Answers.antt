@@ -3,7 +3,7 @@ use Rattle.toml.specs.Data.{as_table}
 use Rattle.toml.specs.View.{table_view, view}
 use Rattle.vault_core.specs.Name.{IsName}
 use Rattle.vault_rights.proofs.Members.{some_same}
-use Rattle.vault_merchants.specs.Listed.{IsTableOf}
+use Rattle.vault_merchants.specs.ListedMerchants.{IsTableOf}
 use Rattle.vault_merchants.proofs.read.read_merchant.Goals as goal
 
 pub returns-in_default-parts_of-clause-fault : goal.returns-in_default-parts_of-clause-fault

@@ -6,7 +6,7 @@ use Rattle.toml.specs.View.{members_view, view}
 use Rattle.vault_rights.specs.Proper.{EachMember}
 use Rattle.vault_rights.proofs.Lists.{all-append}
 use Rattle.vault_rights.proofs.Members.{Ascend, each-member, found-at}
-use Rattle.vault_merchants.specs.Listed.{IsKnown}
+use Rattle.vault_merchants.specs.ListedMerchants.{IsKnown}
 use Rattle.vault_merchants.proofs.table.has_only_known.Goals as goal
 
 pub loop-key-preserved : goal.loop-key-preserved

@@ -4,7 +4,7 @@ use Rattle.std.specs.BTreeMap.{is_at}
 use Rattle.std.specs.Map.{lookup}
 use Rattle.vault_core.specs.Keys.{right_cmp}
 use Rattle.vault_core.proofs.Maps.{right_exact, right_total}
-use Rattle.vault_sql.specs.Listed.{ShowsRight}
+use Rattle.vault_sql.specs.ListedRows.{ShowsRight}
 use Rattle.vault_sql.specs.Gathered.{Gathers}
 use Rattle.vault_sql.proofs.Gathered.{gathers_none, gathers_more}
 use Rattle.vault_store.proofs.Results.{not_err}

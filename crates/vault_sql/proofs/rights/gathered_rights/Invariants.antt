@@ -1,6 +1,6 @@
 use Rattle.std.proofs.Common.{take}
 use Rattle.vault_core.specs.Keys.{right_cmp}
-use Rattle.vault_sql.specs.Listed.{ShowsRight}
+use Rattle.vault_sql.specs.ListedRows.{ShowsRight}
 use Rattle.vault_sql.specs.Gathered.{Gathers}
 use Rattle.vault_sql.proofs.rights.gathered_rights.Given as goal
 

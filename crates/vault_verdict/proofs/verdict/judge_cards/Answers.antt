@@ -4,7 +4,7 @@ use Rattle.sqlite.specs.Held.{state}
 use Rattle.sqlite.specs.State.{HasCleanDisk}
 use Rattle.vault_verdict.proofs.FirstAndBehind.{all_onward, judges_same, none_of, sizes_failed}
 use Rattle.vault_verdict.proofs.Results.{failed_read}
-use Rattle.vault_rules.specs.Held.{HoldCards}
+use Rattle.vault_rules.specs.HeldRows.{HoldCards}
 use Rattle.vault_schema.specs.Versions.{schema_of}
 use Rattle.vault_verdict.proofs.verdict.judge_cards.Given.{Over}
 use Rattle.vault_verdict.proofs.verdict.judge_cards.Goals.{After-judge_behind}

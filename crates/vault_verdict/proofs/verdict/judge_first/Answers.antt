@@ -2,7 +2,7 @@ use Rattle.std.proofs.Common.{◌∙◌, [], inl, refl, subst, sym}
 use Rattle.vault_verdict.proofs.FirstAndBehind.{judges_as}
 use Rattle.vault_verdict.proofs.Results.{failed_memory}
 use Rattle.vault_verdict.proofs.verdict.judge_first.Goals as goal
-use Rattle.vault_rules.specs.Held.{HoldCards}
+use Rattle.vault_rules.specs.HeldRows.{HoldCards}
 
 pub returns-in_err-index-clause-told : goal.returns-in_err-index-clause-told
 returns-in_err-index-clause-told g c clean has =

@@ -3,7 +3,7 @@ use Rattle.clap.specs.Words.{found_of, rows_of}
 use Rattle.clap.proofs.WalkLemmas.{first_value-rows}
 use Rattle.vault_words.proofs.Readings.{has_text, no_digits}
 use Rattle.vault_words.specs.Digits.{IsDigitText}
-use Rattle.vault_words.specs.Values.{HasText}
+use Rattle.vault_words.specs.WordValues.{HasText}
 use Rattle.vault_words.proofs.values.digits.Goals as goal
 
 pub returns-in_default : goal.returns-in_default

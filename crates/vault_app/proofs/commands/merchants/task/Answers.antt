@@ -1,7 +1,7 @@
 use Rattle.std.proofs.Common.{inl, rules, subst, sym}
 use Rattle.vault_core.specs.Scalar.{IsMoment}
 use Rattle.vault_app.proofs.Values.{merchants_proper, set_proper}
-use Rattle.vault_app.specs.Values.{AreValues}
+use Rattle.vault_app.specs.TaskValues.{AreValues}
 use Rattle.vault_app.proofs.commands.merchants.task.Goals as goal
 
 pub returns-in-Err-clause-task : goal.returns-in-Err-clause-task

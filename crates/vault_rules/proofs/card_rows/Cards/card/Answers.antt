@@ -2,7 +2,7 @@ use Rattle.std.proofs.Common.{◌∙◌, ap, option_map, rules, SFits, slice_get
 use Rattle.std.proofs.lemmas.Int.{to_z-of_z}
 use Rattle.vault_rules.proofs.CardRows.{kept_at, kept_nowhere}
 use Rattle.vault_rules.proofs.card_rows.Cards.card.Goals as goal
-use Rattle.vault_rules.specs.Held.{seen_card}
+use Rattle.vault_rules.specs.HeldRows.{seen_card}
 use Rattle.vault_rules.specs.Kept.{place_of}
 
 pub returns-in-Some : goal.returns-in-Some

@@ -2,7 +2,7 @@ use Rattle.std.proofs.Common.{◌∙◌, ap, bytes_eq, option_map, sym}
 use Rattle.std.specs.Option.{option_copied}
 use Rattle.vault_rules.proofs.CardRows.{card_is}
 use Rattle.vault_rules.proofs.rules.cards.has_card.Goals as goal
-use Rattle.vault_rules.specs.Held.{seen_card}
+use Rattle.vault_rules.specs.HeldRows.{seen_card}
 
 pub returns-in-Some-merchant : goal.returns-in-Some-merchant
 returns-in-Some-merchant c merchants cards is known =

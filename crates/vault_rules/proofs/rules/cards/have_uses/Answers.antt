@@ -1,7 +1,7 @@
 use Rattle.std.proofs.Common.{◌≡◌, ◌<◌, ◌≤◌, ◌∙◌, List, ap, get_or, sym, arith, length}
 use Rattle.std.proofs.lemmas.List.{drop_all}
 use Rattle.std.specs.List.{list_all}
-use Rattle.vault_rules.specs.Held.{seen_card}
+use Rattle.vault_rules.specs.HeldRows.{seen_card}
 use Rattle.vault_rules.specs.Kept.{is_used}
 use Rattle.vault_rules.specs.Seen.{HasEntries}
 use Rattle.vault_rules.specs.declared.card_rows.Card.{Card}

@@ -1,6 +1,6 @@
 use Rattle.std.proofs.Common.{◌≡◌, drop, List}
 use Rattle.std.specs.List.{list_all}
-use Rattle.vault_rules.specs.Held.{seen_card}
+use Rattle.vault_rules.specs.HeldRows.{seen_card}
 use Rattle.vault_rules.specs.Kept.{is_used}
 use Rattle.vault_rules.specs.Seen.{HasEntries}
 use Rattle.vault_rules.specs.declared.rows.RawCard.{RawCard}

@@ -3,7 +3,7 @@ use Rattle.std.proofs.lemmas.Int.{to_z-of_z}
 use Rattle.std.specs.Option.{option_copied}
 use Rattle.vault_rules.proofs.CardRows.{live_kept}
 use Rattle.vault_rules.proofs.rules.live.live_key.Goals as goal
-use Rattle.vault_rules.specs.Held.{seen_card}
+use Rattle.vault_rules.specs.HeldRows.{seen_card}
 use Rattle.vault_rules.specs.Packed.{packed}
 use Rattle.vault_rules.specs.Rules.{is_live_multi}
 

@@ -1,6 +1,6 @@
 use Rattle.std.proofs.Common.{sym, ap, ◌∙◌, subst, inl, inr, Err}
 use Rattle.vault_core.specs.Changes.{plus, with_entry}
-use Rattle.vault_store.specs.Held.{IsHeld}
+use Rattle.vault_store.specs.HeldInMemory.{IsHeld}
 use Rattle.vault_store.specs.HeldEntries.{HoldsEntries}
 use Rattle.vault_store.proofs.HeldTables.{beside_entries, whole}
 use Rattle.vault_store.proofs.AddsLemmas.{adds_entry}

@@ -1,7 +1,7 @@
 use Rattle.std.proofs.Common.{◌-◌, List, ◌++◌, ℕ, length, take, drop, arith, sym, subst}
 use Rattle.std.proofs.lemmas.List.{length-drop, length-take}
 use borrow.Rule.Slice.PartMut.{post_of}
-use Rattle.vault_wire.specs.Reading.{Kept, ReadsTo, Waits}
+use Rattle.vault_wire.specs.ReadingMessages.{Kept, ReadsTo, Waits}
 use Rattle.vault_wire.proofs.AloneFacts.{behind, reads_as, waits}
 use Rattle.vault_wire.proofs.ReadingFacts.{goes_on}
 use Rattle.vault_wire.proofs.intake.Intake.take_alone.Goals as goal

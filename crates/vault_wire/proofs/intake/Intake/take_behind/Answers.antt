@@ -1,5 +1,5 @@
 use Rattle.std.proofs.Common.{◌∙◌, ap, take}
-use Rattle.vault_wire.specs.Reading.{Kept, TakesIn}
+use Rattle.vault_wire.specs.ReadingMessages.{Kept, TakesIn}
 use Rattle.vault_wire.proofs.ReadingFacts.{goes_on}
 use Rattle.std.proofs.Common.{subst}
 use Rattle.vault_wire.proofs.intake.Intake.take_behind.Goals as goal

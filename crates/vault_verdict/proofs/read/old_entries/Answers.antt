@@ -1,5 +1,0 @@
-use Rattle.std.proofs.Common.{[]}
-use Rattle.vault_verdict.proofs.read.old_entries.Goals as goal
-
-pub returns : goal.returns
-returns g c = c.read_all.ensures [] []
