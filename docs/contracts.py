@@ -20,7 +20,8 @@ MAY_BE = {
 
 CLAUSE = re.compile(r"^ *(?:ensures|requires)\b[^{\n]*\{", re.M)
 FUNCTION = re.compile(r"^ *(?:pub(?:\(crate\))? )?fn (\w+)", re.M)
-RECORD = re.compile(r"^ *(?:pub )?record (?:pub )?(\S+)((?: |\n)[^=]*?) : Type", re.M)
+RECORD = re.compile(r"^ *(?:pub )?record (?:pub )?([^\s{]+)((?:(?!\n\n)[^=])*?) : Type \d+\s+where", re.M)
+MODULE = re.compile(r"^( *)module _([^=]*?) where\n((?:\n|\1 +[^\n]*\n)*)", re.M)
 SIGNATURE = re.compile(
     r"^ *(?:abbrev |unfoldable )?(?:pub )?([\w-]+) :((?:(?!\n\n).)*?)\n *\1(?: [^\n]*)? =", re.M | re.S
 )
@@ -86,12 +87,23 @@ def in_contracts(path, counted):
                 counted["clauses of more than 200 characters"].append(f"{where}: {length}")
 
 
+def definitions(text):
+    """Each definition's name and how many arguments it takes, with those of the modules that it stands in."""
+    around = [(found.span(3), binders(found.group(2))) for found in MODULE.finditer(text)]
+    around += [
+        ((start + inner.start(3), start + inner.end(3)), binders(inner.group(2)))
+        for (start, end), _ in around
+        for inner in MODULE.finditer(text[start:end])
+    ]
+    found = [(it.start(1), it.group(1), binders(it.group(2))) for it in RECORD.finditer(text)]
+    found += [(it.start(1), it.group(1), places(it.group(2))) for it in SIGNATURE.finditer(text)]
+    for place, name, own in found:
+        yield name, own + sum(number for (start, end), number in around if start <= place < end)
+
+
 def in_definitions(path, counted):
     """Adds what counts in the definitions of a file."""
-    text = path.read_text()
-    found = [(name, binders(head)) for name, head in RECORD.findall(text)]
-    found += [(name, places(body)) for name, body in SIGNATURE.findall(text)]
-    for name, number in found:
+    for name, number in definitions(path.read_text()):
         if number > 6:
             counted["definitions of more than 6 places"].append(f"{path.relative_to(CRATES)}: {name}: {number}")
 

@@ -24,8 +24,9 @@ use Rattle.sql_tables.proofs.Reading.{reads_all}
 use Rattle.sql_tables.specs.Schema.{grown}
 use Rattle.sql_tables.specs.Texts.{IsQuery, ordered_by, sorted_of}
 use Rattle.sql_tables.specs.Reading.{any_left}
-use Rattle.sql_tables.specs.Reading.{AreTable, ReadsRows, ReadsTable, TakesRows, TakesTable, TellsAny}
-use Rattle.sql_tables.specs.Scans.{Scan}
+use Rattle.sql_tables.specs.Reading.{AreTable, Look, ReadsRows, ReadsTable, TableLook, TakesRows, TakesTable}
+use Rattle.sql_tables.specs.Reading.{TellsAny}
+use Rattle.sql_tables.specs.Scans.{Scan, look_of, table_look}
 use Rattle.sql_tables.specs.declared.fault.StoreFault.{StoreFault}
 
 -- what a query orders by the rowid is in the order of the raw rows' rowids
@@ -64,70 +65,71 @@ any_same (x ∷ xs) [] same = absurd (omega (arith, same))
 any_same (x ∷ xs) (y ∷ ys) same = refl
 
 -- the rows of a table, by what a text means
-module _ {S : Type 0} (g : Ghosts S) {R : Type 0} {s : Schema} {text : List ℕ} {values : R → Row}
-    (old new : Held S) where
+module _ {S : Type 0} (g : Ghosts S) {R : Type 0} (table : TableLook R) (old new : Held S) {tree : ℕ}
+    (more : List Term)
+    (means : IsQuery table.look.schema table.look.text
+    (sorted_of tree [] (col 1 0 ∷ more) [] (ordered_by (0 ∷ []))))
+    (is : (m : R) → rowid (table.look.values m) ≡ Int (table.id m))
+    (many : (t : Trees) → length (table.rows t) ≡ length (t tree))
+    (whole : (raws : List R) → (state g old).now.schema ≡ table.look.schema → IsDatabase (state g old).now
+    → table.full (state g old).now
+    → Shown table.look.text [] (state g old) (state g new) (map table.look.values raws)
+    → IsPermutation (table.rows (state g old).now.trees) (map table.stands raws)) where
+  pub takes_table : {K : Type 0} {Has : K → List R → Type 0} (result : Result K StoreFault)
+      → TakesRows g table.look Has result old new → TakesTable g table Has result old new
+  takes_table (Ok k) takes = record {
+    reads = takes.reads;
+    told = λ clean has.
+        let it = takes.told clean has in (
+          it.0,
+          it.1,
+          record {
+            sound = takes.sound clean has;
+            many = many_read (state g old) (state g new) more means has table.look.values it.0 it.2
+                ∙ sym (many (state g old).now.trees);
+            all = λ full. whole it.0 has (takes.sound clean has) full it.2;
+            ordered = ids_ascend table.id table.look.values is it.0
+                (shown_by_rowid _ more means (state g old) (state g new) has _ it.2);
+          },
+        );
+    refused = takes.refused;
+  }
+  takes_table (Err fault) takes = record {
+    reads = takes.reads;
+    told = λ clean has. tt;
+    refused = takes.refused;
+  }
+
+  pub reads_table : (result : Result (Vec R) StoreFault) → ReadsRows g table.look result old new
+      → ReadsTable g table result old new
+  reads_table (Ok raws) read =
+      let it = takes_table {Has = λ (v : Vec R) l. v.items ≡ l} (Ok raws) (record {
+        reads = read.reads;
+        told = λ clean has. (raws.items, refl, read.told clean has);
+        sound = read.sound;
+        refused = read.refused;
+      }) in
+      record {
+        reads = read.reads;
+        told = λ clean has.
+            let all = it.told clean has in
+            subst (AreTable table.full table.rows table.stands table.id (state g old).now) (sym all.1) all.2;
+        refused = read.refused;
+      }
+  reads_table (Err fault) read = record {
+    reads = read.reads;
+    told = λ clean has. tt;
+    refused = read.refused;
+  }
+
+-- whether there are any, by what a text means
+module _ {S : Type 0} (g : Ghosts S) {R : Type 0} {look : Look R} (old new : Held S) where
   module _ {tree : ℕ} (more : List Term)
-      (means : IsQuery s text (sorted_of tree [] (col 1 0 ∷ more) [] (ordered_by (0 ∷ [])))) where
-    pub takes_table : {K : Type 0} {Has : K → List R → Type 0} {Full : Database → Type 0}
-        {rows : Trees → List Row} {stands : R → Row} {id : R → ℤ}
-        → ((m : R) → rowid (values m) ≡ Int (id m)) → ((t : Trees) → length (rows t) ≡ length (t tree))
-        → (result : Result K StoreFault) → TakesRows g text values s Has result old new
-        → ((raws : List R) → (state g old).now.schema ≡ s → IsDatabase (state g old).now
-        → Full (state g old).now → Shown text [] (state g old) (state g new) (map values raws)
-        → IsPermutation (rows (state g old).now.trees) (map stands raws))
-        → TakesTable g text values s Has Full rows stands id result old new
-    takes_table {id = id} is many (Ok k) takes whole = record {
-      reads = takes.reads;
-      told = λ clean has.
-          let it = takes.told clean has in (
-            it.0,
-            it.1,
-            record {
-              sound = takes.sound clean has;
-              many = many_read (state g old) (state g new) more means has values it.0 it.2
-                  ∙ sym (many (state g old).now.trees);
-              all = λ full. whole it.0 has (takes.sound clean has) full it.2;
-              ordered = ids_ascend id values is it.0
-                  (shown_by_rowid _ more means (state g old) (state g new) has _ it.2);
-            },
-          );
-      refused = takes.refused;
-    }
-    takes_table is many (Err fault) takes whole = record {
-      reads = takes.reads;
-      told = λ clean has. tt;
-      refused = takes.refused;
-    }
-
-    pub reads_table : {Full : Database → Type 0} {rows : Trees → List Row} {stands : R → Row} {id : R → ℤ}
-        → ((m : R) → rowid (values m) ≡ Int (id m)) → ((t : Trees) → length (rows t) ≡ length (t tree))
-        → (result : Result (Vec R) StoreFault) → ReadsRows g text values s result old new
-        → ((raws : List R) → (state g old).now.schema ≡ s → IsDatabase (state g old).now
-        → Full (state g old).now → Shown text [] (state g old) (state g new) (map values raws)
-        → IsPermutation (rows (state g old).now.trees) (map stands raws))
-        → ReadsTable g text values s Full rows stands id result old new
-    reads_table {id = id} is many (Ok raws) read whole =
-        let it = takes_table {Has = λ (v : Vec R) l. v.items ≡ l} {id = id} is many (Ok raws) (record {
-          reads = read.reads;
-          told = λ clean has. (raws.items, refl, read.told clean has);
-          sound = read.sound;
-          refused = read.refused;
-        }) whole in
-        record {
-          reads = read.reads;
-          told = λ clean has.
-              let all = it.told clean has in subst (AreTable _ _ _ id (state g old).now) (sym all.1) all.2;
-          refused = read.refused;
-        }
-    reads_table is many (Err fault) read whole = record {
-      reads = read.reads;
-      told = λ clean has. tt;
-      refused = read.refused;
-    }
-
+      (means : IsQuery look.schema look.text (sorted_of tree [] (col 1 0 ∷ more) [] (ordered_by (0 ∷ []))))
+      where
     -- where it is told whether any were read
-    pub tells_any : (raws : Vec R) → ReadsRows g text values s (Ok raws) old new → (n : ℕ)
-        → n ≡ any_left raws.items → TellsAny g text values s (λ t. t tree) (Ok n) old new
+    pub tells_any : (raws : Vec R) → ReadsRows g look (Ok raws) old new → (n : ℕ)
+        → n ≡ any_left raws.items → TellsAny g look (λ t. t tree) (Ok n) old new
     tells_any raws read n is = record {
       reads = record {
         clean = read.reads.clean;
@@ -138,14 +140,15 @@ module _ {S : Type 0} (g : Ghosts S) {R : Type 0} {s : Schema} {text : List ℕ}
       };
       told = λ clean has.
           is ∙ any_same raws.items ((state g old).now.trees tree)
-          (many_read (state g old) (state g new) more means has values raws.items (read.told clean has));
+          (many_read (state g old) (state g new) more means has look.values raws.items
+          (read.told clean has));
       refused = λ clean has. tt;
     }
 
   -- and where none were
-  pub tells_none : {tree : ℕ} (fault : StoreFault) → ReadsRows g text values s (Err fault) old new
+  pub tells_none : {tree : ℕ} (fault : StoreFault) → ReadsRows g look (Err fault) old new
       → (result : Result ℕ StoreFault) → IsErrAnd result (λ e. e ≡ fault)
-      → TellsAny g text values s (λ t. t tree) result old new
+      → TellsAny g look (λ t. t tree) result old new
   tells_none fault read (Ok n) same = absurd same
   tells_none fault read (Err e) same = record {
     reads = record {
@@ -165,15 +168,20 @@ module _ {S R : Type 0} (g : Ghosts S) (scan : Scan R) (ts : List Table) (is : L
   abbrev s : Schema
   s = grown scan.base ts is
 
-  pub takes_scan : {K : Type 0} {Has : K → List R → Type 0} (result : Result K StoreFault)
-      → TakesRows g scan.text scan.values s Has result old new
-      → TakesTable g scan.text scan.values s Has scan.full scan.rows scan.stands scan.id result old new
-  takes_scan result takes =
-      takes_table g old new scan.more (scan.means ts is) scan.id_is scan.many result takes
-      (λ raws has sound full shown. scan.all ts is (state g old) (state g new) has sound full raws shown)
+  whole : (raws : List R) → (state g old).now.schema ≡ s → IsDatabase (state g old).now
+      → scan.full (state g old).now → Shown scan.text [] (state g old) (state g new) (map scan.values raws)
+      → IsPermutation (scan.rows (state g old).now.trees) (map scan.stands raws)
+  whole raws has sound full shown = scan.all ts is (state g old) (state g new) has sound full raws shown
 
-  pub reads_scan : (result : Result (Vec R) StoreFault) → ReadsRows g scan.text scan.values s result old new
-      → ReadsTable g scan.text scan.values s scan.full scan.rows scan.stands scan.id result old new
+  pub takes_scan : {K : Type 0} {Has : K → List R → Type 0} (result : Result K StoreFault)
+      → TakesRows g (look_of scan s) Has result old new
+      → TakesTable g (table_look scan s) Has result old new
+  takes_scan result takes =
+      takes_table g (table_look scan s) old new scan.more (scan.means ts is) scan.id_is scan.many whole result
+      takes
+
+  pub reads_scan : (result : Result (Vec R) StoreFault) → ReadsRows g (look_of scan s) result old new
+      → ReadsTable g (table_look scan s) result old new
   reads_scan result reads =
-      reads_table g old new scan.more (scan.means ts is) scan.id_is scan.many result reads
-      (λ raws has sound full shown. scan.all ts is (state g old) (state g new) has sound full raws shown)
+      reads_table g (table_look scan s) old new scan.more (scan.means ts is) scan.id_is scan.many whole result
+      reads

@@ -222,7 +222,7 @@ module _ {s : Schema} (fine : is_plain s ≡ true) {claims : List Claim} {base :
 
     -- DO UPDATE: a row that is there gets the value too
     pub upsert_in : (k : K) (x : X) (width : ℕ) (terms : List Term) (at : ℕ) (set : List Term)
-        → IsWrite s text (upsert t.place t.table.tree (suc t.more) width terms at set)
+        → IsWrite s text (upsert t.place (suc t.more) (Values terms width) (met_update t.table.tree at set))
         → value_rows params width (length terms / width) terms ≡ (Null ∷ row_of key value k x) ∷ []
         → ((m : ℤ) → column (params ++ Int m ∷ shown (table_of t.table) (fresh k x)) at ≡ Int m)
         → ((m : ℤ) (y : X) → held k ≡ Some y

@@ -19,7 +19,7 @@ use Rattle.sql_tables.proofs.Calls.{reads, was_sound}
 use Rattle.sqlite.specs.Effect.{Database, IsDatabase}
 use Rattle.sql_tables.specs.States.{Reads}
 use Rattle.sql_tables.specs.Values.{IsStrange}
-use Rattle.sql_tables.specs.Reading.{IsUnread, TakesRows}
+use Rattle.sql_tables.specs.Reading.{IsUnread, Look, TakesRows}
 use Rattle.sql_tables.specs.declared.fault.StoreFault.{StoreFault}
 use Rattle.sql_tables.specs.declared.fault.StoreFault.TheVariants.{Memory, Store}
 
@@ -71,17 +71,20 @@ after g Unread old mid {new} is read clean has unread =
     subst (λ db. Unread db new) same (unread (ap (λ (d : Database). d.schema) same ∙ has))
 
 -- the connection is what the rows lent
-pub settled : {S : Type 0} {g : Ghosts S} {R K : Type 0} {s : Schema} {text : List ℕ} {values : R → Row}
-    {Has : K → List R → Type 0} {result : Result K StoreFault} {old now new : Held S}
-    → TakesRows g text values s Has result old now → now ≡ new → TakesRows g text values s Has result old new
-settled {g = g} {s = s} {text = text} {values = values} {Has = Has} {result = result} {old = old} takes same =
-    subst (TakesRows g text values s Has result old) same takes
+pub settled : {S : Type 0} {g : Ghosts S} {R K : Type 0} {look : Look R} {Has : K → List R → Type 0}
+    {result : Result K StoreFault} {old now new : Held S} → TakesRows g look Has result old now → now ≡ new
+    → TakesRows g look Has result old new
+settled {g = g} {look = look} {Has = Has} {result = result} {old = old} takes same =
+    subst (TakesRows g look Has result old) same takes
 
 module _ {S : Type 0} (g : Ghosts S) {R K : Type 0} (s : Schema) (text : List ℕ) (values : R → Row)
     (Has : K → List R → Type 0) (old new : Held S) (plain : IsPlain (understood s text))
     (mode : (state g old).in_transaction ≡ false → (state g new).in_transaction ≡ false)
     (survives : Survives (state g old) (state g new) (CommitsShowing text [] (state g old)))
     (live : IsLive (state g old)) where
+  abbrev look : Look R
+  look = record { schema = s; text = text; values = values }
+
   abbrev was : State
   was = state g old
 
@@ -114,7 +117,7 @@ module _ {S : Type 0} (g : Ghosts S) {R K : Type 0} (s : Schema) (text : List �
       → IfOk result (λ k. (raws : List R) × Has k raws × IsShown raws))
       → (HasCleanDisk is → was.now.schema ≡ s
       → IfErr result (λ e. e ≡ Store → IsUnread g text values was.now new))
-      → TakesRows g text values s Has result old new
+      → TakesRows g look Has result old new
   streamed result told refused =
       let none : Result (List Row) StoreFault = Err Store in
       let it = reads (λ rows. rows) s text [] was is none plain mode survives (λ clean has. tt) in
@@ -135,7 +138,7 @@ module _ {S : Type 0} (g : Ghosts S) {R K : Type 0} (s : Schema) (text : List �
   pub stopped : {P : StoreFault → Type 0} (result : Result K StoreFault) → IsErrAnd result P
       → ((fault : StoreFault) → P fault → HasCleanDisk is → IsPlain (understood was.now.schema text)
       → fault ≡ Store → IsUnread g text values was.now new)
-      → TakesRows g text values s Has result old new
+      → TakesRows g look Has result old new
   stopped (Ok k) failed why = absurd failed
   stopped (Err fault) failed why =
       streamed (Err fault) (λ clean has. tt) (λ clean has. why fault failed clean (plain_in has))
@@ -144,7 +147,7 @@ module _ {S : Type 0} (g : Ghosts S) {R K : Type 0} (s : Schema) (text : List �
   pub ended : (k : K) (raws : List R) → Has k raws → (at : State)
       → (HasCleanDisk is → IsPlain (understood was.now.schema text) → IsUnchanged was at)
       → (HasCleanDisk is → IsPlain (understood was.now.schema text) → Shown text [] at is (map values raws))
-      → TakesRows g text values s Has (Ok k) old new
+      → TakesRows g look Has (Ok k) old new
   ended k raws has at same shown = streamed (Ok k)
       (λ clean known. let fine = plain_in known in
       (raws, has, shown_from text was at is _ fine (same clean fine) (shown clean fine)))

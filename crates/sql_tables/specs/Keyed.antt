@@ -2,11 +2,12 @@
 use Rattle.std.specs.Prelude.{ℕ, pos, suc, List, [], ◌∷◌, ◌++◌, drop, length, map}
 use Rattle.sqlite.specs.Order.{Row}
 use Rattle.sqlite.specs.Query.{Query}
+use Rattle.sqlite.specs.Source.TheVariants.{Values}
 use Rattle.sqlite.specs.Term.{Term, lit, col}
 use Rattle.sqlite.specs.declared.types.Value.TheVariants.{Int, Null}
 use Rattle.sqlite_schema.specs.declared.command.Command.{Command}
 use Rattle.sql_tables.specs.Schema.{Descriptor, below, columns_to}
-use Rattle.sql_tables.specs.Texts.{by_key, delete, query_of, upsert}
+use Rattle.sql_tables.specs.Texts.{by_key, delete, met_update, query_of, upsert}
 
 -- these columns, or 1 where there are none
 abbrev pub shown_columns : List ℕ → List Term
@@ -34,7 +35,8 @@ finding d n = query_of d.tree (by_key n) (shown_columns (drop n (columns_to (len
 -- INSERT .. ON CONFLICT (key) DO UPDATE SET all columns behind the key
 abbrev pub putting : Descriptor → ℕ → ℕ → Command
 putting d place n =
-    upsert place d.tree n (suc (length d.columns)) (new_terms d) (length d.columns) (changed_terms d n)
+    upsert place n (Values (new_terms d) (suc (length d.columns)))
+    (met_update d.tree (length d.columns) (changed_terms d n))
 
 -- DELETE WHERE the key's columns are the parameters
 abbrev pub taking : Descriptor → ℕ → ℕ → Command

@@ -33,6 +33,21 @@ AreLonger n rows = (row : Row) → Has rows row → n < length row
 abbrev pub IsAny : Database → Type 0
 IsAny db = Unit {0}
 
+-- a query as it is asked and read: of a database in this schema, by this text, each row as these values
+pub record Look (R : Type 0) : Type 0 where
+  pub schema : Schema
+  pub text : List ℕ
+  pub values : R → Row
+
+-- How a table is read: by a query; its rows as they are read, and the premise under which they are all its
+-- rows; how one that was read stands there, and its rowid.
+pub record TableLook (R : Type 0) : Type 1 where
+  pub look : Look R
+  pub full : Database → Type 0
+  pub rows : Trees → List Row
+  pub stands : R → Row
+  pub id : R → ℤ
+
 -- Rows that were read of a table, in the order of their rowids: as many as it has, and under the premise they
 -- are all its rows, as they are read.
 pub record AreTable {R : Type 0} (Full : Database → Type 0) (rows : Trees → List Row) (stands : R → Row)
@@ -51,65 +66,62 @@ Failed text old new =
 abbrev pub ShowsStrange : {R : Type 0} → List ℕ → (R → Row) → State → Type 0
 ShowsStrange text values st = (rows : List Row) × Begins text [] st rows × IsStrange (map values) rows
 
-module _ {S : Type 0} (g : Ghosts S) {R : Type 0} (text : List ℕ) (values : R → Row) where
+module _ {S : Type 0} (g : Ghosts S) where
+  -- of a database in this schema, on an honest disk, this is so
+  abbrev pub InSchema : Schema → Held S → Held S → (Database → Type 0) → Type 0
+  InSchema s old new Says =
+      HasCleanDisk (state g new) → (state g old).now.schema ≡ s → Says (state g old).now
+
   -- Why the rows of a query of this database aren't read, though memory is there: at some row the query
   -- failed, or what it shows is strange.
-  pub record IsUnread (db : Database) (new : Held S) : Type 0 where
+  pub record IsUnread {R : Type 0} (text : List ℕ) (values : R → Row) (db : Database) (new : Held S)
+      : Type 0 where
     pub at : Held S
     pub same : (state g at).now ≡ db
     pub why : Failed text (state g at) (state g new) ⊎ ShowsStrange text values (state g at)
 
-  module _ (s : Schema) where
-    -- the rows that a query shows in this schema are taken, each as it comes, and nothing else is done
-    pub record TakesRows {K : Type 0} (Has : K → List R → Type 0) (result : Result K StoreFault)
-        (old new : Held S) : Type 0
-      where
-        pub reads : Reads s result (state g old) (state g new)
-        pub told : HasCleanDisk (state g new) → (state g old).now.schema ≡ s
-            → IfOk result (λ k. (raws : List R) × Has k raws
-            × Shown text [] (state g old) (state g new) (map values raws))
-        pub sound : HasCleanDisk (state g new) → (state g old).now.schema ≡ s
-            → OnOk result (IsDatabase (state g old).now)
-        pub refused : HasCleanDisk (state g new) → (state g old).now.schema ≡ s
-            → IfErr result (λ e. e ≡ Store → IsUnread (state g old).now new)
+  -- the rows that a query shows are taken, each as it comes, and nothing else is done
+  pub record TakesRows {R K : Type 0} (look : Look R) (Has : K → List R → Type 0)
+      (result : Result K StoreFault) (old new : Held S) : Type 0 where
+    pub reads : Reads look.schema result (state g old) (state g new)
+    pub told : InSchema look.schema old new (λ db. IfOk result (λ k. (raws : List R) × Has k raws
+        × Shown look.text [] (state g old) (state g new) (map look.values raws)))
+    pub sound : InSchema look.schema old new (λ db. OnOk result (IsDatabase db))
+    pub refused : InSchema look.schema old new (λ db.
+        IfErr result (λ e. e ≡ Store → IsUnread look.text look.values db new))
 
-    -- the rows that a query shows in this schema are read, each as it comes, and nothing else is done
-    pub record ReadsRows (result : Result (Vec R) StoreFault) (old new : Held S) : Type 0 where
-      pub reads : Reads s result (state g old) (state g new)
-      pub told : HasCleanDisk (state g new) → (state g old).now.schema ≡ s
-          → IfOk result (λ raws. Shown text [] (state g old) (state g new) (map values raws.items))
-      pub sound : HasCleanDisk (state g new) → (state g old).now.schema ≡ s
-          → OnOk result (IsDatabase (state g old).now)
-      pub refused : HasCleanDisk (state g new) → (state g old).now.schema ≡ s
-          → IfErr result (λ e. e ≡ Store → IsUnread (state g old).now new)
+  -- the rows that a query shows are read, each as it comes, and nothing else is done
+  pub record ReadsRows {R : Type 0} (look : Look R) (result : Result (Vec R) StoreFault) (old new : Held S)
+      : Type 0 where
+    pub reads : Reads look.schema result (state g old) (state g new)
+    pub told : InSchema look.schema old new (λ db. IfOk result (λ raws.
+        Shown look.text [] (state g old) (state g new) (map look.values raws.items)))
+    pub sound : InSchema look.schema old new (λ db. OnOk result (IsDatabase db))
+    pub refused : InSchema look.schema old new (λ db.
+        IfErr result (λ e. e ≡ Store → IsUnread look.text look.values db new))
 
-    -- a table of this schema is read by the text, and nothing else is done
-    pub record ReadsTable (Full : Database → Type 0) (rows : Trees → List Row) (stands : R → Row)
-        (id : R → ℤ) (result : Result (Vec R) StoreFault) (old new : Held S) : Type 0
-      where
-        pub reads : Reads s result (state g old) (state g new)
-        pub told : HasCleanDisk (state g new) → (state g old).now.schema ≡ s
-            → IfOk result (λ raws. AreTable Full rows stands id (state g old).now raws.items)
-        pub refused : HasCleanDisk (state g new) → (state g old).now.schema ≡ s
-            → IfErr result (λ e. e ≡ Store → IsUnread (state g old).now new)
+  -- a table is read, and nothing else is done
+  pub record ReadsTable {R : Type 0} (table : TableLook R) (result : Result (Vec R) StoreFault)
+      (old new : Held S) : Type 0 where
+    pub reads : Reads table.look.schema result (state g old) (state g new)
+    pub told : InSchema table.look.schema old new (λ db. IfOk result (λ raws.
+        AreTable table.full table.rows table.stands table.id db raws.items))
+    pub refused : InSchema table.look.schema old new (λ db.
+        IfErr result (λ e. e ≡ Store → IsUnread table.look.text table.look.values db new))
 
-    -- a table of this schema is taken by the text, row by row, and nothing else is done
-    pub record TakesTable {K : Type 0} (Has : K → List R → Type 0) (Full : Database → Type 0)
-        (rows : Trees → List Row) (stands : R → Row) (id : R → ℤ) (result : Result K StoreFault)
-        (old new : Held S) : Type 0
-      where
-        pub reads : Reads s result (state g old) (state g new)
-        pub told : HasCleanDisk (state g new) → (state g old).now.schema ≡ s
-            → IfOk result (λ k. (raws : List R) × Has k raws
-            × AreTable Full rows stands id (state g old).now raws)
-        pub refused : HasCleanDisk (state g new) → (state g old).now.schema ≡ s
-            → IfErr result (λ e. e ≡ Store → IsUnread (state g old).now new)
+  -- a table is taken, row by row, and nothing else is done
+  pub record TakesTable {R K : Type 0} (table : TableLook R) (Has : K → List R → Type 0)
+      (result : Result K StoreFault) (old new : Held S) : Type 0 where
+    pub reads : Reads table.look.schema result (state g old) (state g new)
+    pub told : InSchema table.look.schema old new (λ db. IfOk result (λ k. (raws : List R) × Has k raws
+        × AreTable table.full table.rows table.stands table.id db raws))
+    pub refused : InSchema table.look.schema old new (λ db.
+        IfErr result (λ e. e ≡ Store → IsUnread table.look.text table.look.values db new))
 
-    -- the rows of such a table are read, and it is told whether there are any; nothing else is done
-    pub record TellsAny (rows : Trees → List Row) (result : Result ℕ StoreFault) (old new : Held S) : Type 0
-      where
-        pub reads : Reads s result (state g old) (state g new)
-        pub told : HasCleanDisk (state g new) → (state g old).now.schema ≡ s
-            → IfOk result (λ n. n ≡ any_left (rows (state g old).now.trees))
-        pub refused : HasCleanDisk (state g new) → (state g old).now.schema ≡ s
-            → IfErr result (λ e. e ≡ Store → IsUnread (state g old).now new)
+  -- the rows of a table are read, and it is told whether there are any; nothing else is done
+  pub record TellsAny {R : Type 0} (look : Look R) (rows : Trees → List Row) (result : Result ℕ StoreFault)
+      (old new : Held S) : Type 0 where
+    pub reads : Reads look.schema result (state g old) (state g new)
+    pub told : InSchema look.schema old new (λ db. IfOk result (λ n. n ≡ any_left (rows db.trees)))
+    pub refused : InSchema look.schema old new (λ db.
+        IfErr result (λ e. e ≡ Store → IsUnread look.text look.values db new))

@@ -15,7 +15,7 @@ use Rattle.sqlite_schema.specs.declared.schema.Index.{Index}
 use Rattle.sqlite_trees.specs.declared.store.Store.{Ghosts}
 use Rattle.sql_tables.specs.Schema.{grown}
 use Rattle.sql_tables.specs.Texts.{IsQuery, ordered_by, sorted_of}
-use Rattle.sql_tables.specs.Reading.{ReadsTable, TakesTable, TellsAny}
+use Rattle.sql_tables.specs.Reading.{Look, ReadsTable, TableLook, TakesTable, TellsAny}
 use Rattle.sql_tables.specs.declared.fault.StoreFault.{StoreFault}
 use Rattle.sql_tables.specs.declared.left.RowId.{RowId}
 
@@ -55,23 +55,33 @@ pub record IdScan : Type 0 where
 abbrev pub id_values : RowId → Row
 id_values r = Int r.rowid ∷ []
 
-module _ {S : Type 0} (g : Ghosts S) where
-  module _ {R : Type 0} (scan : Scan R) where
-    -- the table is read so, in each schema that begins with its first one
-    abbrev pub ReadsScan : Result (Vec R) StoreFault → Held S → Held S → Type 0
-    ReadsScan result old new =
-        (ts : List Table) (is : List Index) → ReadsTable g scan.text scan.values (grown scan.base ts is)
-        scan.full scan.rows scan.stands scan.id result old new
+-- a query as a scan asks it in this schema, and the table as it reads it there
+abbrev pub look_of : {R : Type 0} → Scan R → Schema → Look R
+look_of scan s = record { schema = s; text = scan.text; values = scan.values }
 
-    -- and it is taken so, row by row
-    abbrev pub TakesScan : {K : Type 0} → (K → List R → Type 0) → Result K StoreFault → Held S → Held S
-        → Type 0
-    TakesScan Has result old new =
-        (ts : List Table) (is : List Index) → TakesTable g scan.text scan.values (grown scan.base ts is) Has
-        scan.full scan.rows scan.stands scan.id result old new
+abbrev pub table_look : {R : Type 0} → Scan R → Schema → TableLook R
+table_look scan s =
+    record { look = look_of scan s; full = scan.full; rows = scan.rows; stands = scan.stands; id = scan.id }
+
+-- the rowids alone, as a scan asks for them in this schema
+abbrev pub id_look : IdScan → Schema → Look RowId
+id_look scan s = record { schema = s; text = scan.text; values = id_values }
+
+module _ {S : Type 0} (g : Ghosts S) where
+  -- the table is read so, in each schema that begins with its first one
+  abbrev pub ReadsScan : {R : Type 0} → Scan R → Result (Vec R) StoreFault → Held S → Held S → Type 0
+  ReadsScan scan result old new =
+      (ts : List Table) (is : List Index) → ReadsTable g (table_look scan (grown scan.base ts is)) result old new
+
+  -- and it is taken so, row by row
+  abbrev pub TakesScan : {R K : Type 0} → Scan R → (K → List R → Type 0) → Result K StoreFault → Held S
+      → Held S → Type 0
+  TakesScan scan Has result old new =
+      (ts : List Table) (is : List Index) → TakesTable g (table_look scan (grown scan.base ts is)) Has result
+      old new
 
   -- it is told so whether the table has rows
   abbrev pub TellsScan : IdScan → Result ℕ StoreFault → Held S → Held S → Type 0
   TellsScan scan result old new =
-      (ts : List Table) (is : List Index) → TellsAny g scan.text id_values (grown scan.base ts is)
+      (ts : List Table) (is : List Index) → TellsAny g (id_look scan (grown scan.base ts is))
       (λ db. db scan.tree) result old new

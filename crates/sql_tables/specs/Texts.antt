@@ -11,6 +11,7 @@ use Rattle.sqlite.specs.Does.{lacks_sequence}
 use Rattle.sqlite.specs.Listing.{understood, reads_listing}
 use Rattle.sqlite.specs.Query.{Query, inner, end}
 use Rattle.sqlite.specs.Schema.{Schema}
+use Rattle.sqlite.specs.Source.{Source}
 use Rattle.sqlite.specs.Source.TheVariants.{Values, Query as FromQuery}
 use Rattle.sqlite.specs.Table.{Table}
 use Rattle.sqlite.specs.Term.{Term, lit, col, op2}
@@ -95,14 +96,14 @@ insert_from place tree project =
 abbrev pub met_update : ℕ → ℕ → List Term → Query
 met_update tree place project = query_of tree (by_id place) (col 1 0 ∷ col 1 0 ∷ project)
 
--- an insert of one row, which updates the row with its key
-abbrev pub upsert : ℕ → ℕ → ℕ → ℕ → List Term → ℕ → List Term → Command
-upsert place tree n width terms at set =
-    InsertOr place Abort (Values terms width)
+-- an insert of one row, which updates the row with its key, the first n columns
+abbrev pub upsert : ℕ → ℕ → Source → Query → Command
+upsert place n row update =
+    InsertOr place Abort row
     (record {
       target = Some (columns_to n);
       update =
-          Some (record { lets = []; body = met_update tree at set });
+          Some (record { lets = []; body = update });
     } ∷ [])
 
 -- an insert of one row, which leaves the row that is in its way

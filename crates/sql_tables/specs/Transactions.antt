@@ -1,5 +1,5 @@
 -- What calls do between the states of a connection, outside a transaction and in one.
-use Rattle.std.specs.Prelude.{◌≡◌, ◌≤◌, ℕ, List, Ok, Result, OnOk, IsTrue}
+use Rattle.std.specs.Prelude.{◌≡◌, ◌≤◌, ℕ, List, Ok, Result, IfOk, OnOk, IsTrue}
 use Rattle.sqlite.specs.Effect.{Database}
 use Rattle.sqlite.specs.Held.{Held, state}
 use Rattle.sqlite.specs.Order.{Row}
@@ -8,11 +8,42 @@ use Rattle.sqlite.specs.State.{State, ExecutesInside, HasCleanDisk}
 use Rattle.sqlite.specs.View.{doubt}
 use Rattle.sqlite.specs.declared.transaction.Transaction.{Transaction}
 use Rattle.sqlite_trees.specs.declared.store.Store.{Ghosts}
-use Rattle.sql_tables.specs.States.{Claim, Steps, Within}
+use Rattle.sql_tables.specs.States.{Claim, Stands, Steps, Within}
 
 -- this is done between the states of a connection before a call and after it
 abbrev pub Between : {S : Type 0} → Ghosts S → Held S → Held S → (State → State → Type 0) → Type 0
 Between g old new Does = Does (state g old) (state g new)
+
+-- so within a transaction
+abbrev pub During : {S : Type 0} → Ghosts S → Transaction S → Transaction S → (State → State → Type 0)
+    → Type 0
+During g old new Does = Does (state g old.conn.now) (state g new.conn.now)
+
+-- ---- a call over tables of a schema, where t has claims on their rows; on an honest disk, with Ok
+
+-- what it answers is so of what the tables had
+abbrev pub TellsStood : {T R E : Type 0} → Schema → (T → List Claim) → Result R E → (T → R → Type 0) → State
+    → State → Type 0
+TellsStood s claims result Is old new =
+    HasCleanDisk new → IfOk result (λ x. (t : _) → Stands s (claims t) old.now → Is t x)
+
+-- within a transaction, what it answers is so of what the tables have, and they have it still
+abbrev pub TellsWithin : {T R E : Type 0} → Schema → (T → List Claim) → Result R E → (T → R → Type 0)
+    → State → State → Type 0
+TellsWithin s claims result Is old new =
+    HasCleanDisk new
+    → IfOk result (λ x. (base : Database) (t : _) → Within s (claims t) base old
+    → Is t x × Within s (claims t) base new)
+
+-- within a transaction, the tables have this of what they had
+abbrev pub Becomes : {T R E : Type 0} → Schema → (T → List Claim) → Result R E → (T → T) → State → State
+    → Type 0
+Becomes s claims result after old new =
+    HasCleanDisk new
+    → OnOk result ((base : Database) (t : _) → Within s (claims t) base old
+    → Within s (claims (after t)) base new)
+
+-- ---- whatever the call does
 
 -- whether or not the call failed, no doubt of the disk goes away
 abbrev pub KeepsDoubts : {S : Type 0} → Ghosts S → Held S → Held S → Type 0
@@ -46,10 +77,3 @@ module _ {S : Type 0} (g : Ghosts S) (old new : Transaction S) where
     pub done : HasCleanDisk (state g new.conn.now)
         → OnOk result ((base : Database) (x : X) → From x base (state g old.conn.now)
         → To x base (state g new.conn.now))
-
-  -- in a schema it makes this of what the tables have
-  abbrev pub Rewrites : {T R E : Type 0} (s : Schema) (claims : T → List Claim) (result : Result R E)
-      (after : T → T) → Type 0
-  Rewrites s claims result after =
-      LeadsTo result (λ t base st. Within s (claims t) base st)
-      (λ t base st. Within s (claims (after t)) base st)

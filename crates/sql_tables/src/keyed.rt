@@ -1,21 +1,19 @@
 //! Tables as finite maps: looked up, put and taken by their keys.
-ghost use Rattle.std.specs.Prelude.{◌≡◌, ◌++◌, [], ℕ, suc, true, List, Option, Some, None, IfOk, OnOk};
+ghost use Rattle.std.specs.Prelude.{◌≡◌, ◌++◌, [], ℕ, suc, true, List, Option, Some, None, IfOk};
 ghost use Rattle.std.specs.declared.cmp.Ordering.{Ordering};
-ghost use Rattle.sqlite.specs.Effect.{Database};
 ghost use Rattle.sqlite.specs.Held.{state};
 ghost use Rattle.sqlite.specs.Order.{Row as SqlRow};
 ghost use Rattle.sqlite.specs.Schema.{Schema};
-ghost use Rattle.sqlite.specs.State.{HasCleanDisk};
 ghost use Rattle.sqlite.specs.Tree.{Trees};
 ghost use Rattle.sqlite.specs.Values.{bound};
 ghost use Rattle.sql_tables.specs.Codes.{row_of};
 ghost use Rattle.sql_tables.specs.Rows.{AreRowsOf, put as put_at};
 ghost use Rattle.sql_tables.specs.Schema.{is_plain};
-ghost use Rattle.sql_tables.specs.States.{Claim, Reads, Stands, StandsIn, Within, at_place};
+ghost use Rattle.sql_tables.specs.States.{Claim, Reads, StandsIn, at_place};
 ghost use Rattle.sql_tables.specs.Texts.{IsQuery, IsWrite};
 ghost use Rattle.sql_tables.specs.Maps.{Keyed};
 ghost use Rattle.sql_tables.specs.Maps.{claim_at};
-ghost use Rattle.sql_tables.specs.Transactions.{Proceeds};
+ghost use Rattle.sql_tables.specs.Transactions.{Becomes, Between, During, Proceeds, TellsStood, TellsWithin};
 ghost use Rattle.sql_tables.specs.Keyed.{at_least, finding, putting, taking};
 
 use crate::fault::StoreFault;
@@ -112,9 +110,8 @@ pub fn find<S: Alter, T: Finds>(
     // Ok
     ensures reads { Reads T.schema result (state S.Store conn.old) (state S.Store conn.new) }
     // with Ok, on an honest disk, where the tables stood for pairs, this is what is at the key
-    ensures told { HasCleanDisk (state S.Store conn.new) → IfOk result (λ found. (t : T.Tables) (k : T.Key)
-        → Stands T.schema (T.claims t) (state S.Store conn.old).now → bound params.now ≡ T.key k ++ []
-        → found ≡ T.held t k) }
+    ensures told { Between S.Store conn.old conn.new (TellsStood T.schema T.claims result
+        (λ t found. (k : T.Key) → bound params.now ≡ T.key k ++ [] → found ≡ T.held t k)) }
 {
     let rows = rows_of(conn, T::find_text(), params)?;
     match rows.first() {
@@ -130,10 +127,8 @@ pub fn find_in<S: Alter, T: Finds>(
 ) -> Result<Option<T::Value>, StoreFault>
     ensures goes_on { Proceeds S.Store tx.old tx.new }
     // with Ok, on an honest disk, tables that stood for pairs do so still, and this is what is at the key
-    ensures told { HasCleanDisk (state S.Store tx.new.conn.now) → IfOk result (λ found. (base : Database)
-        (t : T.Tables) → Within T.schema (T.claims t) base (state S.Store tx.old.conn.now)
-        → ((k : T.Key) → bound params.now ≡ T.key k ++ [] → found ≡ T.held t k)
-        × Within T.schema (T.claims t) base (state S.Store tx.new.conn.now)) }
+    ensures told { During S.Store tx.old tx.new (TellsWithin T.schema T.claims result
+        (λ t found. (k : T.Key) → bound params.now ≡ T.key k ++ [] → found ≡ T.held t k)) }
 {
     let rows = rows_in(tx, T::find_text(), params)?;
     match rows.first() {
@@ -149,12 +144,9 @@ pub fn put<S: Alter, T: Puts>(
 ) -> Result<(), Error>
     ensures goes_on { Proceeds S.Store tx.old tx.new }
     // with Ok, on an honest disk, tables that stood for pairs stand for them with this one put at its key
-    ensures done { HasCleanDisk (state S.Store tx.new.conn.now)
-        → OnOk result ((base : Database) (t : T.Tables) (k : T.Key) (x : T.Value)
-        → Within T.schema (T.claims t) base (state S.Store tx.old.conn.now)
-        → bound params.now ≡ row_of T.key T.value k x
-        → Within T.schema (T.claims (T.with t (put_at T.cmp (T.held t) k (Some x)))) base
-        (state S.Store tx.new.conn.now)) }
+    ensures done { (k : T.Key) (x : T.Value) → bound params.now ≡ row_of T.key T.value k x
+        → During S.Store tx.old tx.new (Becomes T.schema T.claims result
+        (λ t. T.with t (put_at T.cmp (T.held t) k (Some x)))) }
 {
     step(tx, T::put_text(), params)
 }
@@ -166,12 +158,9 @@ pub fn take<S: Alter, T: Takes>(
 ) -> Result<(), Error>
     ensures goes_on { Proceeds S.Store tx.old tx.new }
     // with Ok, on an honest disk, tables that stood for pairs stand for them without the one at this key
-    ensures done { HasCleanDisk (state S.Store tx.new.conn.now)
-        → OnOk result ((base : Database) (t : T.Tables) (k : T.Key)
-        → Within T.schema (T.claims t) base (state S.Store tx.old.conn.now)
-        → bound params.now ≡ T.key k ++ []
-        → Within T.schema (T.claims (T.with t (put_at T.cmp (T.held t) k None))) base
-        (state S.Store tx.new.conn.now)) }
+    ensures done { (k : T.Key) → bound params.now ≡ T.key k ++ []
+        → During S.Store tx.old tx.new (Becomes T.schema T.claims result
+        (λ t. T.with t (put_at T.cmp (T.held t) k None))) }
 {
     step(tx, T::take_text(), params)
 }

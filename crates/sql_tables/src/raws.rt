@@ -33,7 +33,8 @@ pub fn shown<S: Alter, R: Raw>(
     sql: &str,
 ) -> Result<Vec<R::Of>, StoreFault>
     ensures { (s : Schema) → IsPlain (understood s sql.now)
-        → ReadsRows S.Store sql.now R.values s result conn.old conn.new }
+        → ReadsRows S.Store (record { schema = s; text = sql.now; values = R.values }) result conn.old
+        conn.new }
 {
     taken::<S, R, Vec<R::Of>>(conn, sql, Vec::new(alloc))
 }

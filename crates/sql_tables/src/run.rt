@@ -7,7 +7,7 @@ ghost use Rattle.sqlite.specs.State.{ExecutesInside, HasCleanDisk, IsUnchanged, 
 ghost use Rattle.sqlite.specs.Values.{bound};
 ghost use Rattle.sqlite.proofs.Callers.{IsPlain};
 ghost use Rattle.sql_tables.specs.States.{Reads};
-ghost use Rattle.sql_tables.specs.Transactions.{Proceeds, RunsText};
+ghost use Rattle.sql_tables.specs.Transactions.{During, Proceeds, RunsText};
 
 use sqlite::{Alter, Connection, Error, Row, Transaction};
 use sqlite_value::value::ValueRef;
@@ -44,10 +44,9 @@ pub fn change<S: Alter>(
     ensures goes_on { Proceeds S.Store tx.old tx.new }
     // with Ok, on an honest disk, the statement ran in the open transaction, if one was open, and changed so
     // many rows
-    ensures ran { HasCleanDisk (state S.Store tx.new.conn.now)
-        → IfOk result (λ count. IsTrue (state S.Store tx.old.conn.now).in_transaction
-        → ExecutesInside 0 sql.now (bound params.now) (state S.Store tx.old.conn.now)
-        (state S.Store tx.new.conn.now) (Ok count)) }
+    ensures ran { During S.Store tx.old tx.new (λ old new. HasCleanDisk new
+        → IfOk result (λ count. IsTrue old.in_transaction
+        → ExecutesInside 0 sql.now (bound params.now) old new (Ok count))) }
 {
     tx.execute(sql, params)
 }
@@ -72,13 +71,12 @@ pub fn rows_in<S: Alter>(
 ) -> Result<Vec<Row>, Error>
     ensures goes_on { Proceeds S.Store tx.old tx.new }
     // on an honest disk, Ok gives the rows that the query shows
-    ensures told { HasCleanDisk (state S.Store tx.new.conn.now)
-        → IfOk result (λ rows. Shown sql.now (bound params.now) (state S.Store tx.old.conn.now)
-        (state S.Store tx.new.conn.now) rows.items) }
+    ensures told { During S.Store tx.old tx.new (λ old new. HasCleanDisk new
+        → IfOk result (λ rows. Shown sql.now (bound params.now) old new rows.items)) }
     // with Ok, on an honest disk, a plain query changed nothing in its schema
-    ensures kept { HasCleanDisk (state S.Store tx.new.conn.now) → (s : _) → IsPlain (understood s sql.now)
-        → (state S.Store tx.old.conn.now).now.schema ≡ s
-        → OnOk result (IsUnchanged (state S.Store tx.old.conn.now) (state S.Store tx.new.conn.now)) }
+    ensures kept { During S.Store tx.old tx.new (λ old new. HasCleanDisk new
+        → (s : _) → IsPlain (understood s sql.now) → old.now.schema ≡ s
+        → OnOk result (IsUnchanged old new)) }
 {
     tx.query_all(sql, params)
 }

@@ -52,7 +52,8 @@ pub fn taken<S: Alter, R: Raw, K: Taker<R>>(
     start: K,
 ) -> Result<K, StoreFault>
     ensures { (s : Schema) → IsPlain (understood s sql.now)
-        → TakesRows S.Store sql.now R.values s (K.took start) result conn.old conn.new }
+        → TakesRows S.Store (record { schema = s; text = sql.now; values = R.values }) (K.took start) result
+        conn.old conn.new }
 {
     // a database whose schema can be asked for is sound
     let _live = conn.schema();

@@ -41,15 +41,25 @@ abbrev pub put_right : (Bytes × (Bytes × Right) → Option GrantRow)
 put_right held None = held
 put_right held (Some x) = put right_cmp held (x.0, (x.1, x.2)) x.3
 
--- each table with its change
-abbrev pub written : Lookups → Changes → Lookups
-written h ch = record {
+-- the counts with the one that goes up
+abbrev pub with_count : Lookups → Option (Bytes × Lives) → Option Count → Lookups
+with_count h lives count = record h { counts = raise h.counts lives count }
+
+-- the tables of merchants with their changes, and those of callers
+abbrev pub with_merchant : Lookups → Changes → Lookups
+with_merchant h ch = record h {
   merchants = put_lives h.merchants ch.lives;
   counts = raise h.counts ch.lives ch.count;
   entries = put_entry h.entries ch.entry;
-  records = put_record h.records ch.recorded;
-  rights = put_right h.rights ch.right;
 }
+
+abbrev pub with_caller : Lookups → Changes → Lookups
+with_caller h ch =
+    record h { records = put_record h.records ch.recorded; rights = put_right h.rights ch.right }
+
+-- each table with its change
+abbrev pub written : Lookups → Changes → Lookups
+written h ch = with_caller (with_merchant h ch) ch
 
 -- the count that goes up has room
 abbrev pub HasRoom : (Bytes × ℕ → Option ℕ) → Option (Bytes × Lives) → Option Count → Type 0

@@ -1,20 +1,17 @@
 //! The rows of entries.
-ghost use Rattle.std.specs.Prelude.{◌≡◌, ◌<◌, ◌^◌, ℕ, ℤ, Some, option_map, map, min, take};
+ghost use Rattle.std.specs.Prelude.{◌≡◌, ◌<◌, ◌^◌, ℤ, min};
 ghost use Rattle.sqlite.specs.Order.{column};
 ghost use Rattle.sqlite.specs.declared.types.Value.TheVariants.{Int};
 ghost use Rattle.sql_tables.specs.Rows.{one_of};
 ghost use Rattle.sql_tables.specs.Transactions.{Between};
-ghost use Rattle.vault_core.specs.Dead.{dead_tokens};
-ghost use Rattle.vault_core.specs.Keys.{Bytes};
-ghost use Rattle.vault_core.specs.Repeats.{current as current_lem};
 ghost use Rattle.vault_core.specs.Sound.{Sound};
-ghost use Rattle.vault_core.specs.Vault.{Vault, entry_at};
+ghost use Rattle.vault_core.specs.Vault.{entry_at};
 ghost use Rattle.vault_core.specs.Window.{moment_at};
 ghost use Rattle.vault_core.specs.declared.limit.TheConstants.{MOST_TOKENS};
-ghost use Rattle.vault_sql.specs.DeadBefore.{HasNoDeadBefore};
+ghost use Rattle.vault_sql.specs.DeadBefore.{AreFirstDead};
 ghost use Rattle.vault_sql.specs.Calls.{Tells};
 ghost use Rattle.vault_tables.specs.Calls.{TellsTables};
-ghost use Rattle.vault_sql.specs.Cards.{HasCard};
+ghost use Rattle.vault_sql.specs.Cards.{IsCurrentWhere, current_token};
 ghost use Rattle.vault_tables.specs.Shown.{text_column};
 
 use sql_tables::fault::StoreFault;
@@ -57,9 +54,8 @@ fn current_rows<S: Alter>(
 ) -> Result<Vec<Row>, Error>
     requires { at < 2 ^ 63 }
     // it is so of each sound vault whose number has this card, where the moment isn't before the merchant's
-    ensures { Between S.Store conn.old conn.new (TellsTables result (λ t rows. (V : Vault) (pan : Bytes)
-        → HasCard t V id m.now pan → Sound V → moment_at V m.now at ≡ at → rows.items
-        ≡ one_of text_column (option_map (λ held. held.0) (current_lem V m.now pan at)))) }
+    ensures { Between S.Store conn.old conn.new (TellsTables result (λ t rows.
+        IsCurrentWhere t id m.now at (λ token. rows.items ≡ one_of text_column token))) }
 {
     rows_of(conn, FIND_CURRENT, params![m, id, at as i64])
 }
@@ -74,10 +70,8 @@ fn current_of<S: Alter>(
 ) -> Result<Option<Token>, StoreFault>
     requires { at < 2 ^ 63 }
     // it is so of each sound vault whose number has this card, where the moment isn't before the merchant's
-    ensures { Between S.Store conn.old conn.new (TellsTables result (λ t found.
-        (V : Vault) (pan : Bytes) (id : ℤ) → column row.now 0 ≡ Int id
-        → HasCard t V id m.now pan → Sound V → moment_at V m.now at ≡ at
-        → found ≡ option_map (λ held. held.0) (current_lem V m.now pan at))) }
+    ensures { Between S.Store conn.old conn.new (TellsTables result (λ t found. (id : ℤ)
+        → column row.now 0 ≡ Int id → IsCurrentWhere t id m.now at (λ token. found ≡ token))) }
 {
     let id: i64 = row.get(0)?;
     let rows = current_rows(conn, m, id, at)?;
@@ -95,8 +89,7 @@ pub fn current<S: Alter>(
     at: Moment,
 ) -> Result<Option<Token>, StoreFault>
     ensures { Between S.Store conn.old conn.new (Tells result
-        (λ V found. Sound V → moment_at V m.now at ≡ at
-        → found ≡ option_map (λ held. held.0) (current_lem V m.now number.now at))) }
+        (λ V found. Sound V → moment_at V m.now at ≡ at → found ≡ current_token V m.now number.now at)) }
 {
     let rows = card_rows(conn, merchant_text(m), number.as_str())?;
     match rows.first() {
@@ -116,8 +109,7 @@ fn dead_rows<S: Alter>(
     requires at { at < 2 ^ 63 }
     requires many { many < 2 ^ 63 }
     ensures { Between S.Store conn.old conn.new (Tells result
-        (λ V rows. HasNoDeadBefore V m.now at from.now → (now : ℕ) → moment_at V m.now now ≡ at
-        → rows.items ≡ map text_column (take many (dead_tokens V m.now now)))) }
+        (λ V rows. AreFirstDead V m.now at from.now many rows.items)) }
 {
     rows_of(conn, FIND_DEAD, params![m, from, at as i64, many as i64])
 }
@@ -132,8 +124,7 @@ pub fn dead<S: Alter>(
     limit: usize,
 ) -> Result<Vec<Row>, StoreFault>
     ensures { Between S.Store conn.old conn.new (Tells result
-        (λ V rows. HasNoDeadBefore V m.now at from.now → (now : ℕ) → moment_at V m.now now ≡ at
-        → rows.items ≡ map text_column (take (min MOST_TOKENS limit) (dead_tokens V m.now now)))) }
+        (λ V rows. AreFirstDead V m.now at from.now (min MOST_TOKENS limit) rows.items)) }
 {
     let many = MOST_TOKENS.min(limit as u64);
     Ok(dead_rows(conn, merchant_text(m), from, at.seconds(), many)?)

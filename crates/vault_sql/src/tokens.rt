@@ -1,13 +1,12 @@
 //! Lists of dead tokens.
-ghost use Rattle.std.specs.Prelude.{◌≡◌, IfOk, map, min, take};
+ghost use Rattle.std.specs.Prelude.{◌≡◌, IfOk, map, min};
 ghost use Rattle.sqlite.specs.Order.{column};
 ghost use Rattle.sqlite.specs.declared.types.Value.TheVariants.{Text};
 ghost use Rattle.sql_tables.specs.Transactions.{Between};
-ghost use Rattle.vault_core.specs.Dead.{dead_tokens};
 ghost use Rattle.vault_core.specs.Window.{moment_at};
 ghost use Rattle.vault_core.specs.declared.limit.TheConstants.{MOST_TOKENS};
 ghost use Rattle.vault_sql.specs.Calls.{Tells};
-ghost use Rattle.vault_tables.specs.Shown.{text_column};
+ghost use Rattle.vault_sql.specs.DeadBefore.{first_dead};
 ghost use Rattle.vault_sql.specs.Places.{IsPast};
 
 use crate::entries::dead;
@@ -33,7 +32,7 @@ pub(crate) fn dead_from<S: Alter>(
 ) -> Result<(Moment, Vec<Row>), StoreFault>
     ensures { Between S.Store conn.old conn.new (Tells result
         (λ V found. IsPast place.now V → (found.0 ≡ moment_at V m.now now)
-        × (found.1.items ≡ map text_column (take (min MOST_TOKENS limit) (dead_tokens V m.now now))))) }
+        × (found.1.items ≡ first_dead V m.now now (min MOST_TOKENS limit)))) }
 {
     let at = moment(conn, m, now)?;
     let rows = dead(conn, m, at, start_of(place, m, at), limit)?;

@@ -1,25 +1,23 @@
 //! All that one command changes, in one transaction.
 ghost use Rattle.std.specs.Prelude.{◌≡◌, ◌↔◌, ◌<◌, ◌^◌, IsTrue, Some, false, OnOk};
-ghost use Rattle.sqlite.specs.Held.{state};
-ghost use Rattle.vault_core.specs.Changes.{Fit, plus};
+ghost use Rattle.vault_core.specs.Changes.{plus};
 ghost use Rattle.vault_core.specs.Keys.{bytes_cmp, right_cmp};
-ghost use Rattle.vault_core.specs.Sound.{Sound};
 ghost use Rattle.vault_core.specs.Vault.{Vault};
 ghost use Rattle.sqlite.specs.State.{HasCleanDisk};
 ghost use Rattle.sql_tables.specs.Rows.{put};
-ghost use Rattle.sql_tables.specs.Transactions.{Inside, KeepsDoubts};
+ghost use Rattle.sql_tables.specs.Transactions.{Between, Inside, KeepsDoubts};
 ghost use Rattle.vault_schema.specs.Versions.{newest};
 ghost use Rattle.vault_tables.specs.Calls.{Makes};
 ghost use Rattle.vault_schema.specs.Holds.{Holds, LeavesEither};
-ghost use Rattle.vault_schema.specs.Stands.{lookups_of};
-ghost use Rattle.vault_sql.specs.KnownCounts.{IsBefore, IsMade, IsMadeBefore};
+ghost use Rattle.vault_sql.specs.KnownCounts.{IsBefore, IsFitFor, IsMade, IsMadeBefore};
 ghost use Rattle.vault_sql.specs.KnownLives.{AreBefore, AreThere};
 ghost use Rattle.vault_sql.specs.Storable.{AreStorable, IsStorableEntry, IsStorableLives};
 ghost use Rattle.vault_core.specs.declared.changes.Count.TheVariants.{Made};
 ghost use Rattle.vault_core.specs.Numbers.{count_number};
 ghost use Rattle.vault_sql.specs.Written.{HasRoom, put_entry as put_entry_lem, put_lives};
-ghost use Rattle.vault_sql.specs.Written.{put_record as put_record_lem, put_right, raise as raise_lem};
-ghost use Rattle.vault_tables.specs.Raising.{HasRoomAt, raise_at};
+ghost use Rattle.vault_sql.specs.Written.{put_record as put_record_lem, put_right, with_caller, with_count};
+ghost use Rattle.vault_sql.specs.Written.{with_merchant};
+ghost use Rattle.vault_tables.specs.Raising.{HasRoomAt, raised_lookups};
 
 use crate::remembered::Known;
 use sql_tables::fault::StoreFault;
@@ -111,7 +109,7 @@ fn raise_made<S: Alter>(
 ) -> Result<(), Error>
     ensures { Inside S.Store tx.old tx.new (Makes newest result
         (λ h. IsMade known m.now h.counts × HasRoomAt h.counts (m.now, count_number Made))
-        (λ h. record h { counts = raise_at h.counts (m.now, count_number Made) })) }
+        (λ h. raised_lookups h (m.now, count_number Made))) }
 {
     match known {
         Some(known) => raise_known(tx, merchant_text(m), Count::Made.number(), known),
@@ -128,7 +126,7 @@ fn raise_count<S: Alter>(
 ) -> Result<(), Error>
     ensures { Inside S.Store tx.old tx.new (Makes newest result
         (λ h. IsMade made m.now h.counts × HasRoomAt h.counts (m.now, count_number count))
-        (λ h. record h { counts = raise_at h.counts (m.now, count_number count) })) }
+        (λ h. raised_lookups h (m.now, count_number count))) }
 {
     match count {
         Count::Made => raise_made(tx, m, made),
@@ -145,7 +143,7 @@ fn write_count<S: Alter>(
 ) -> Result<(), Error>
     ensures { Inside S.Store tx.old tx.new (Makes newest result
         (λ h. IsMadeBefore lives.now made h.counts × HasRoom h.counts lives.now count)
-        (λ h. record h { counts = raise_lem h.counts lives.now count })) }
+        (λ h. with_count h lives.now count)) }
 {
     let Some((m, _)) = lives else {
         return Ok(());
@@ -234,11 +232,7 @@ fn write_merchant<S: Alter>(
     requires { AreStorable ch.now }
     ensures { Inside S.Store tx.old tx.new (Makes newest result
         (λ h. IsBefore ch.now.lives known.now h × HasRoom h.counts ch.now.lives ch.now.count)
-        (λ h. record h {
-          merchants = put_lives h.merchants ch.now.lives;
-          counts = raise_lem h.counts ch.now.lives ch.now.count;
-          entries = put_entry_lem h.entries ch.now.entry;
-        })) }
+        (λ h. with_merchant h ch.now)) }
 {
     write_lives(tx, &ch.lives, &known.lives)?;
     write_count(tx, &ch.lives, ch.count, known.made)?;
@@ -248,8 +242,7 @@ fn write_merchant<S: Alter>(
 /// Writes what changes of a caller's records and rights.
 fn write_caller<S: Alter>(tx: &mut Transaction<'_, S>, ch: &Changes) -> Result<(), Error>
     ensures { Inside S.Store tx.old tx.new (Makes newest result
-        (λ _. Unit {0}) (λ h. record h
-        { records = put_record_lem h.records ch.now.recorded; rights = put_right h.rights ch.now.right })) }
+        (λ _. Unit {0}) (λ h. with_caller h ch.now)) }
 {
     write_record(tx, &ch.recorded)?;
     write_right(tx, &ch.right)
@@ -268,14 +261,11 @@ pub(crate) fn write<S: Alter>(
     ensures clean { KeepsDoubts S.Store conn.old conn.new }
     // with Ok, on an honest disk, a sound vault that was held, whose merchant was known so, and that the
     // changes fit is held with them
-    ensures done { HasCleanDisk (state S.Store conn.new)
-        → OnOk result ((V : Vault) → Holds (state S.Store conn.old) V
-        → IsBefore ch.now.lives known.now (lookups_of V) → Sound V → Fit V ch.now
-        → Holds (state S.Store conn.new) (plus V ch.now)) }
+    ensures done { Between S.Store conn.old conn.new (λ old new. HasCleanDisk new → OnOk result
+        ((V : Vault) → IsFitFor ch.now known.now old V → Holds new (plus V ch.now))) }
     // on an honest disk, a crash leaves such a vault without the changes or with them
-    ensures crash { HasCleanDisk (state S.Store conn.new) → (V : Vault) → Holds (state S.Store conn.old) V
-        → IsBefore ch.now.lives known.now (lookups_of V) → Sound V → Fit V ch.now
-        → LeavesEither (state S.Store conn.new) V (plus V ch.now) }
+    ensures crash { Between S.Store conn.old conn.new (λ old new. HasCleanDisk new → (V : Vault)
+        → IsFitFor ch.now known.now old V → LeavesEither new V (plus V ch.now)) }
 {
     let mut tx = conn.transaction();
     write_merchant(&mut tx, ch, known)?;

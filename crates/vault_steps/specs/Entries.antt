@@ -1,5 +1,5 @@
 -- The entries that a step writes anew.
-use Rattle.std.specs.Prelude.{◌≡◌, ◌<◌, ◌^◌, List, [], ◌∷◌, Option, Some, None}
+use Rattle.std.specs.Prelude.{◌≡◌, ◌<◌, ◌^◌, ◌⊎◌, List, [], ◌∷◌, Option, Some, None}
 use Rattle.std.specs.Global.{Vec}
 use Rattle.std.specs.List.{All, flat_map}
 use Rattle.sqlite_rules.specs.Lists.{Has}
@@ -8,7 +8,7 @@ use Rattle.vault_core.specs.Keys.{Bytes, entry_cmp}
 use Rattle.vault_core.specs.declared.row.Entry.{Entry}
 use Rattle.sqlite.specs.Tree.{Trees}
 use Rattle.vault_schema.specs.Layers.{Either}
-use Rattle.vault_schema.specs.Versions.{AreOf, Lookups, has_cards}
+use Rattle.vault_schema.specs.Versions.{AreOf, Lookups, has_cards, next_of}
 use Rattle.vault_schema.specs.declared.version.Version.{Version}
 
 -- entries in pieces, each with its merchant and its token, in one list
@@ -37,6 +37,10 @@ without_entries h = record h { entries = λ key. None }
 -- what the step from a version is given: the entries of schema 1, and else nothing
 abbrev pub AreFor : Version → List (Bytes × Bytes × Entry) → Lookups → Type 0
 AreFor v entries h = Either (has_cards v) (Unit {0}) (AreEntriesOf entries h)
+
+-- a sound database whose rows stand for this in a version, or in the next one
+abbrev pub AreOfOrNext : Version → Lookups → Trees → Type 0
+AreOfOrNext v h db = AreOf v h db ⊎ AreOf (next_of v) h db
 
 -- a sound database whose rows stand for this in some version
 abbrev pub AreSome : Lookups → Trees → Type 0

@@ -3,7 +3,7 @@ ghost use Rattle.std.specs.Prelude.{◌≡◌, ◌↔◌, IsTrue, Err, false, On
 ghost use Rattle.sqlite.specs.Held.{state};
 ghost use Rattle.sqlite.specs.State.{HasCleanDisk};
 ghost use Rattle.sql_tables.specs.Schema.{no_schema};
-ghost use Rattle.sql_tables.specs.Transactions.{KeepsDoubts, Proceeds};
+ghost use Rattle.sql_tables.specs.Transactions.{Between, During, KeepsDoubts, Proceeds};
 ghost use Rattle.vault_schema.specs.Versions.{newest};
 ghost use Rattle.vault_core.specs.Vault.{empty_vault};
 ghost use Rattle.vault_tables.specs.Calls.{IsWithin};
@@ -46,9 +46,8 @@ fn create_first<S: Alter>(tx: &mut Transaction<'_, S>) -> Result<(), Error>
     ensures goes_on { Proceeds S.Store tx.old tx.new }
     // with Ok, on an honest disk, a transaction in a database without a table got the rowless tables of
     // schema 1
-    ensures done { HasCleanDisk (state S.Store tx.new.conn.now)
-        → OnOk result ((base : _) → IsBegun (state S.Store tx.old.conn.now) base
-        → IsRowless first_schema 6 (state S.Store tx.new.conn.now) base) }
+    ensures done { During S.Store tx.old tx.new (λ old new. HasCleanDisk new → OnOk result ((base : _)
+        → IsBegun old base → IsRowless first_schema 6 new base)) }
 {
     step(tx, CREATE_VAULT, &[])?;
     step(tx, CREATE_OLD_MERCHANTS, &[])?;
@@ -65,9 +64,8 @@ fn create_second<S: Alter>(tx: &mut Transaction<'_, S>) -> Result<(), Error>
     ensures goes_on { Proceeds S.Store tx.old tx.new }
     // with Ok, on an honest disk, the rowless tables of schema 1 became those of schema 2, over the same last
     // commit
-    ensures done { HasCleanDisk (state S.Store tx.new.conn.now)
-        → OnOk result ((base : _) → IsRowless first_schema 6 (state S.Store tx.old.conn.now) base
-        → IsRowless second_schema 8 (state S.Store tx.new.conn.now) base) }
+    ensures done { During S.Store tx.old tx.new (λ old new. HasCleanDisk new → OnOk result ((base : _)
+        → IsRowless first_schema 6 old base → IsRowless second_schema 8 new base)) }
 {
     step(tx, CREATE_CARDS, &[])?;
     step(tx, CREATE_ENTRIES, &[])?;
@@ -79,9 +77,8 @@ fn create_last<S: Alter>(tx: &mut Transaction<'_, S>) -> Result<(), Error>
     ensures goes_on { Proceeds S.Store tx.old tx.new }
     // with Ok, on an honest disk, the rowless tables of schema 2 became the newest, which stand for the empty
     // vault
-    ensures done { HasCleanDisk (state S.Store tx.new.conn.now)
-        → OnOk result ((base : _) → IsRowless second_schema 8 (state S.Store tx.old.conn.now) base
-        → IsWithin newest (state S.Store tx.new.conn.now) base (lookups_of empty_vault)) }
+    ensures done { During S.Store tx.old tx.new (λ old new. HasCleanDisk new → OnOk result ((base : _)
+        → IsRowless second_schema 8 old base → IsWithin newest new base (lookups_of empty_vault))) }
 {
     for text in CREATE_LATER {
         step(tx, text, &[])?;
@@ -94,9 +91,8 @@ fn create_tables<S: Alter>(tx: &mut Transaction<'_, S>) -> Result<(), Error>
     ensures goes_on { Proceeds S.Store tx.old tx.new }
     // with Ok, on an honest disk, a transaction in a database without a table got tables that stand for the
     // empty vault
-    ensures done { HasCleanDisk (state S.Store tx.new.conn.now)
-        → OnOk result ((base : _) → IsBegun (state S.Store tx.old.conn.now) base
-        → IsWithin newest (state S.Store tx.new.conn.now) base (lookups_of empty_vault)) }
+    ensures done { During S.Store tx.old tx.new (λ old new. HasCleanDisk new → OnOk result ((base : _)
+        → IsBegun old base → IsWithin newest new base (lookups_of empty_vault))) }
 {
     create_first(tx)?;
     create_second(tx)?;
@@ -109,14 +105,12 @@ fn create_all<S: Alter>(conn: &mut Connection<S>) -> Result<(), Error>
     ensures idle { conn.new.in_transaction ≡ false }
     ensures clean { KeepsDoubts S.Store conn.old conn.new }
     // with Ok, on an honest disk, where there was no table, a ready connection holds the empty vault
-    ensures done { HasCleanDisk (state S.Store conn.new)
-        → OnOk result (IsReady (state S.Store conn.old) → (state S.Store conn.old).now.schema ≡ no_schema
-        → Holds (state S.Store conn.new) empty_vault) }
+    ensures done { Between S.Store conn.old conn.new (λ old new. HasCleanDisk new
+        → OnOk result (IsReady old → old.now.schema ≡ no_schema → Holds new empty_vault)) }
     // on an honest disk, where there was no table, a crash leaves of a ready connection what was committed or
     // the empty vault
-    ensures crash { HasCleanDisk (state S.Store conn.new)
-        → IsReady (state S.Store conn.old) → (state S.Store conn.old).now.schema ≡ no_schema
-        → LeavesFirst (state S.Store conn.new) (state S.Store conn.old).committed.trees }
+    ensures crash { Between S.Store conn.old conn.new (λ old new. HasCleanDisk new
+        → IsReady old → old.now.schema ≡ no_schema → LeavesFirst new old.committed.trees) }
 {
     let mut tx = conn.transaction();
     create_tables(&mut tx)?;
@@ -132,15 +126,15 @@ pub fn make_schema<S: Alter>(conn: &mut Connection<S>) -> Result<(), SchemaFault
     // with Ok, there was no table, index or view
     ensures blank { OnOk result ((state S.Store conn.old).now.schema ≡ no_schema) }
     // with Ok, on an honest disk, a ready connection holds the empty vault
-    ensures done { HasCleanDisk (state S.Store conn.new)
-        → OnOk result (IsReady (state S.Store conn.old) → Holds (state S.Store conn.new) empty_vault) }
+    ensures done { Between S.Store conn.old conn.new (λ old new. HasCleanDisk new
+        → OnOk result (IsReady old → Holds new empty_vault)) }
     // `Taken` is answered exactly where there was a table, an index or a view
     ensures taken { (result ≡ Err SchemaFault.Taken) ↔ (¬ ((state S.Store conn.old).now.schema ≡ no_schema)) }
     // after `Taken` the connection is as it was
     ensures unchanged { result ≡ Err SchemaFault.Taken → conn.new ≡ conn.old }
     // on an honest disk, of a ready connection a crash leaves what was committed or the empty vault
-    ensures crash { HasCleanDisk (state S.Store conn.new) → IsReady (state S.Store conn.old)
-        → LeavesFirst (state S.Store conn.new) (state S.Store conn.old).committed.trees }
+    ensures crash { Between S.Store conn.old conn.new (λ old new. HasCleanDisk new → IsReady old
+        → LeavesFirst new old.committed.trees) }
 {
     if !is_blank(conn.schema()) {
         return Err(SchemaFault::Taken);

@@ -1,10 +1,10 @@
 -- What is shown and made of cards.
 use Rattle.std.specs.Ordering.{int_cmp}
-use Rattle.std.specs.Prelude.{◌≡◌, ◌⊎◌, ℤ, pos, List, [], ◌∷◌, Option, Some, None, option_and_then}
+use Rattle.std.specs.Prelude.{◌≡◌, ◌⊎◌, ◌+◌, ℕ, ℤ, pos, List, [], ◌∷◌, Option, Some, None, option_and_then}
 use Rattle.sqlite.specs.Order.{Row}
 use Rattle.sqlite.specs.declared.types.Value.TheVariants.{Int}
 use Rattle.sql_tables.specs.Rows.{put}
-use Rattle.vault_core.specs.Keys.{Bytes}
+use Rattle.vault_core.specs.Keys.{Bytes, entry_cmp}
 use Rattle.vault_core.specs.declared.row.Entry.{Entry}
 use Rattle.vault_schema.specs.Joined.{AreJoined, nothing_owed, number_of, owed_to}
 use Rattle.vault_schema.specs.Versions.{Tables}
@@ -24,6 +24,20 @@ HasNoCard cards m number = (id : ℤ) (c : Card) → IsCardOf cards id c m numbe
 -- the id and the uses of a card
 abbrev pub card_shown : ℤ → Card → Row
 card_shown id c = Int id ∷ Int (pos c.uses) ∷ []
+
+-- the tables where a card with this id, which was this one, has so many uses
+abbrev pub with_uses : Tables → ℤ → Card → ℕ → Tables
+with_uses t id c uses = record t { cards = put int_cmp t.cards id (Some (record c { uses = uses })) }
+
+-- the row shows the id and the uses of a card that is there
+abbrev pub ShowsUses : Row → Tables → Type 0
+ShowsUses row t = (id : ℤ) × (c : Card) × (t.cards id ≡ Some c) × (row ≡ card_shown id c)
+
+-- the card that the row shows is the one with this id, and was used once more
+abbrev pub IsUsedAgain : Row → ℤ → Tables → Tables → Type 0
+IsUsedAgain row it t new =
+    (id : ℤ) (c : Card) → t.cards id ≡ Some c → row ≡ card_shown id c
+    → (it ≡ id) × (new ≡ with_uses t id c (c.uses + 1))
 
 -- a row of the uses of a card
 abbrev pub uses_column : Card → Row
@@ -52,6 +66,10 @@ IsAddedOnce t new None m number = new ≡ t
 -- the card with this id went
 abbrev pub IsGone : Tables → Tables → ℤ → Type 0
 IsGone t new id = new ≡ record t { cards = put int_cmp t.cards id None }
+
+-- the tables with an entry at a merchant's token
+abbrev pub with_pointing : Tables → Bytes × Bytes → Pointing → Tables
+with_pointing t key entry = record t { pointing = put entry_cmp t.pointing key (Some entry) }
 
 -- one use more of a merchant's card with this id, which is owed
 pub record OwesUse (t new : Tables) (id : ℤ) (m pan : Bytes) : Type 0 where

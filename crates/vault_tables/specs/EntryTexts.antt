@@ -5,6 +5,7 @@ use Rattle.sqlite.specs.Collation.TheVariants.{Binary}
 use Rattle.sqlite.specs.Listing.{understood}
 use Rattle.sqlite.specs.Order.{Row}
 use Rattle.sqlite.specs.Table.{Table}
+use Rattle.sqlite.specs.Source.TheVariants.{Values}
 use Rattle.sqlite.specs.Term.{Term, lit, col, op2, op1}
 use Rattle.sqlite.specs.declared.types.Value.TheVariants.{Null, Int, Text}
 use Rattle.sqlite_schema.specs.declared.schema.Index.{Index}
@@ -15,7 +16,7 @@ use Rattle.sqlite_tied.specs.Compute.{everything}
 use Rattle.sql_tables.proofs.Scans.{long_scan}
 use Rattle.sql_tables.specs.Scans.{Scan, IdScan}
 use Rattle.sql_tables.specs.Schema.{grown}
-use Rattle.sql_tables.specs.Texts.{IsQuery, IsWrite, query_of, by_key, insert, eq, upsert, first_of}
+use Rattle.sql_tables.specs.Texts.{IsQuery, IsWrite, query_of, by_key, insert, eq, met_update, upsert, first_of}
 use Rattle.sql_tables.specs.Texts.{sorted_of, ordered_by}
 use Rattle.sql_tables.specs.Values.{int_value, maybe_text_value, row_text_value}
 use Rattle.vault_rules.specs.declared.rows.RawEntry.{RawEntry}
@@ -88,7 +89,7 @@ module _ (ts : List Table) (is : List Index) where
   add_entry_is = record { is = refl; plain = (refl, refl) }
 
   pub put_entry_is : IsWrite (grown v2 ts is) PUT_ENTRY.now
-      (upsert 7 14 2 8 entry_terms 7 entry_set)
+      (upsert 7 2 (Values entry_terms 8) (met_update 14 7 entry_set))
   unfolding understood everything
   put_entry_is = record { is = refl; plain = (refl, refl) }
 

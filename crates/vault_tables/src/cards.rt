@@ -1,13 +1,13 @@
 //! The rows of cards: each number once a merchant, and how many entries point at it.
 ghost use Rattle.vault_tables.specs.Taken.{CardsTaken};
-ghost use Rattle.std.specs.Ordering.{int_cmp};
-ghost use Rattle.std.specs.Prelude.{◌≡◌, ◌<◌, ◌^◌, ◌+◌, ℤ, Some, refl};
-ghost use Rattle.sql_tables.specs.Rows.{one_of, put};
+ghost use Rattle.std.specs.Prelude.{◌≡◌, ◌<◌, ◌^◌, Some, refl};
+ghost use Rattle.sql_tables.specs.Rows.{one_of};
 ghost use Rattle.sql_tables.specs.Transactions.{Inside, Between};
 ghost use Rattle.vault_schema.specs.declared.rows.Card.{Card};
 ghost use Rattle.vault_tables.specs.Calls.{TellsInEach, TurnsInEach, TellsTables};
-ghost use Rattle.vault_tables.specs.CardUses.{IsAddedOnce, IsGone, OwesNoMore, OwesNothing, OwesNumber};
-ghost use Rattle.vault_tables.specs.CardUses.{OwesUse, ShowsCard, card_shown, uses_column};
+ghost use Rattle.vault_tables.specs.CardUses.{IsAddedOnce, IsGone, IsUsedAgain, OwesNoMore, OwesNothing};
+ghost use Rattle.vault_tables.specs.CardUses.{OwesNumber, OwesUse, ShowsCard, ShowsUses, card_shown};
+ghost use Rattle.vault_tables.specs.CardUses.{uses_column, with_uses};
 ghost use Rattle.vault_tables.specs.CardTexts.{card_values, card_scan};
 ghost use Rattle.vault_schema.specs.Joined.{number_of};
 ghost use Rattle.vault_tables.specs.Shown.{text_column};
@@ -169,7 +169,7 @@ fn set_uses<S: Alter>(tx: &mut Transaction<'_, S>, id: i64, uses: u64) -> Result
     ensures { Inside S.Store tx.old tx.new (TurnsInEach result
         (λ t. (c : Card) × (t.cards id ≡ Some c))
         (λ it t new. (c : Card) → t.cards id ≡ Some c
-        → new ≡ record t { cards = put int_cmp t.cards id (Some (record c { uses = uses })) })) }
+        → new ≡ with_uses t id c uses)) }
 {
     step(tx, SET_USES, params![id, uses as i64])
 }
@@ -200,10 +200,8 @@ fn add_card<S: Alter>(
 
 /// Uses a card once more, whose row this is.
 fn use_again<S: Alter>(tx: &mut Transaction<'_, S>, row: &Row) -> Result<i64, StoreFault>
-    ensures { Inside S.Store tx.old tx.new (TurnsInEach result
-        (λ t. (id : ℤ) × (c : Card) × (t.cards id ≡ Some c) × (row.now ≡ card_shown id c))
-        (λ it t new. (id : ℤ) (c : Card) → t.cards id ≡ Some c → row.now ≡ card_shown id c → (it ≡ id)
-        × (new ≡ record t { cards = put int_cmp t.cards id (Some (record c { uses = c.uses + 1 })) }))) }
+    ensures { Inside S.Store tx.old tx.new (TurnsInEach result (ShowsUses row.now)
+        (IsUsedAgain row.now)) }
 {
     let id: i64 = row.get(0)?;
     let uses: u64 = row.get(1)?;

@@ -3,7 +3,7 @@ ghost use Rattle.std.specs.Prelude.{◌≡◌, ◌<◌, None, Some, if◌then◌
 ghost use Rattle.vault_tables.specs.Calls.{TellsTables, Makes, Turns};
 ghost use Rattle.vault_schema.specs.Versions.{newest};
 ghost use Rattle.sql_tables.specs.Transactions.{Inside, Between};
-ghost use Rattle.vault_tables.specs.Raising.{HasRoomAt, IsRaised, IsTotal, raise_at};
+ghost use Rattle.vault_tables.specs.Raising.{HasRoomAt, IsRaised, IsTotal, raised_lookups, raised_tables};
 ghost use Rattle.vault_tables.specs.CountTexts.{count_values, count_scan};
 
 use crate::columns::{GREATEST, merchant_text};
@@ -144,7 +144,7 @@ fn raise_row<S: Alter>(tx: &mut Transaction<'_, S>, m: &str, kind: u8) -> Result
 fn add_count<S: Alter>(tx: &mut Transaction<'_, S>, m: &str, kind: u8) -> Result<(), Error>
     ensures { Inside S.Store tx.old tx.new (Turns newest result
         (λ t. t.counts (m.now, kind) ≡ None)
-        (λ it t new. new ≡ record t { counts = raise_at t.counts (m.now, kind) })) }
+        (λ it t new. new ≡ raised_tables t (m.now, kind))) }
 {
     step(tx, ADD_COUNT, params![m, kind as i64])
 }
@@ -153,7 +153,7 @@ fn add_count<S: Alter>(tx: &mut Transaction<'_, S>, m: &str, kind: u8) -> Result
 pub fn raise<S: Alter>(tx: &mut Transaction<'_, S>, m: &str, kind: u8) -> Result<(), Error>
     ensures { Inside S.Store tx.old tx.new (Makes newest result
         (λ h. HasRoomAt h.counts (m.now, kind))
-        (λ h. record h { counts = raise_at h.counts (m.now, kind) })) }
+        (λ h. raised_lookups h (m.now, kind))) }
 {
     if raise_row(tx, m, kind)? {
         return Ok(());
@@ -171,7 +171,7 @@ fn raise_by_rowid<S: Alter>(
 ) -> Result<bool, Error>
     ensures { Inside S.Store tx.old tx.new (Turns newest result
         (λ t. IsTotal t.counts (m.now, kind) known.total)
-        (λ has t new. new ≡ (if has then record t { counts = raise_at t.counts (m.now, kind) } else t))) }
+        (λ has t new. new ≡ (if has then raised_tables t (m.now, kind) else t))) }
 {
     if known.total >= GREATEST {
         return Ok(false);
@@ -195,7 +195,7 @@ pub fn raise_known<S: Alter>(
 ) -> Result<(), Error>
     ensures { Inside S.Store tx.old tx.new (Makes newest result
         (λ h. IsTotal h.counts (m.now, kind) known.total × HasRoomAt h.counts (m.now, kind))
-        (λ h. record h { counts = raise_at h.counts (m.now, kind) })) }
+        (λ h. raised_lookups h (m.now, kind))) }
 {
     if raise_by_rowid(tx, m, kind, known)? {
         return Ok(());

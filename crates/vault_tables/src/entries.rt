@@ -10,7 +10,7 @@ ghost use Rattle.vault_schema.specs.Joined.{card_of, number_of};
 ghost use Rattle.vault_schema.specs.Entries.{entry_key, pointing_columns, ShowsPointing};
 ghost use Rattle.vault_tables.specs.EntryTexts.{entry_values, entry_scan};
 ghost use Rattle.vault_tables.specs.Calls.{MakesInEach, TellsInEach, TurnsInEach, TellsTables};
-ghost use Rattle.vault_tables.specs.CardUses.{pointed_at, numbered};
+ghost use Rattle.vault_tables.specs.CardUses.{pointed_at, numbered, with_pointing};
 
 use crate::cards::{leave_number, number_at, use_number};
 use crate::columns::{card_in, id_value, moment_in, moment_or_null_in, moment_value, usage_in};
@@ -332,7 +332,7 @@ fn add_pointing<S: Alter>(
     requires { entry.now.expires < 2 ^ 63 }
     ensures { Inside S.Store tx.old tx.new (TurnsInEach result
         (λ t. Unit {0}) (λ it t new. (t.pointing (m.now, token.now) ≡ None)
-        × (new ≡ record t { pointing = put entry_cmp t.pointing (m.now, token.now) (Some entry.now) }))) }
+        × (new ≡ with_pointing t (m.now, token.now) entry.now))) }
 {
     step_with(tx, ADD_ENTRY, m, token, entry)
 }
@@ -346,8 +346,7 @@ fn put_pointing<S: Alter>(
 ) -> Result<(), Error>
     requires { entry.now.expires < 2 ^ 63 }
     ensures { Inside S.Store tx.old tx.new (TurnsInEach result
-        (λ t. Unit {0}) (λ it t new. new
-        ≡ record t { pointing = put entry_cmp t.pointing (m.now, token.now) (Some entry.now) })) }
+        (λ t. Unit {0}) (λ it t new. new ≡ with_pointing t (m.now, token.now) entry.now)) }
 {
     step_with(tx, PUT_ENTRY, m, token, entry)
 }

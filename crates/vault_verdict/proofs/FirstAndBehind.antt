@@ -9,8 +9,8 @@ use Rattle.vault_schema.specs.Versioned.{HasVersion}
 use Rattle.vault_schema.specs.declared.version.Version.{Version}
 use Rattle.vault_verdict.proofs.Judged.{AreRead, all_of, are_read}
 use Rattle.vault_verdict.specs.Faults.{IsJudged}
-use Rattle.vault_verdict.specs.Judging.{AreOnward, IsUnjudged, IsVerdictOf, Judges, JudgesAll, first_rows}
-use Rattle.vault_verdict.specs.Judging.{sizes_in}
+use Rattle.vault_verdict.specs.Judging.{AreOnward, FirstRows, IsUnjudged, IsVerdictOf, Judges, JudgesAll}
+use Rattle.vault_verdict.specs.Judging.{NamedRows, first_rows, named_in, sizes_in}
 use Rattle.vault_verdict.specs.Opened.{AreVersions}
 use Rattle.vault_verdict.specs.ReadAs.{IsFullIn}
 use Rattle.vault_verdict.specs.Reading.{AreCardsIn, AreFirst, IsUnreadOne}
@@ -21,8 +21,6 @@ use Rattle.vault_verdict.specs.declared.sizes.Sizes.{Sizes}
 use Rattle.vault_verdict.specs.declared.verdict.Judged.{Judged}
 use Rattle.vault_rules.specs.AllRows.{Rows}
 use Rattle.vault_rules.specs.declared.rows.RawVersion.{RawVersion}
-use Rattle.vault_rules.specs.declared.rows.RawMerchant.{RawMerchant}
-use Rattle.vault_rules.specs.declared.rows.RawCount.{RawCount}
 use Rattle.vault_rules.specs.declared.rows.RawCard.{RawCard}
 
 -- a judgment that failed has the fault of its sizes, and no olders
@@ -36,17 +34,12 @@ pub none_of : (whole : Result Judged OpenFault) (fault : OpenFault) (P : Judged 
 none_of (Ok it) fault P same = absurd same
 none_of (Err e) fault P same = tt
 
--- equal lists come to equal things
-pub judges_same : {S : Type 0} (g : Ghosts S) (v : Version) (old new : Held S) (versions : List RawVersion)
-    (cards : List RawCard) (m m' : List RawMerchant) (n n' : List RawCount) (olders olders' : List OldEntry)
-    (result result' : Result Sizes OpenFault) → m ≡ m' → n ≡ n' → olders ≡ olders' → result ≡ result'
-    → Judges g v versions m n olders cards result old new
-    → Judges g v versions m' n' olders' cards result' old new
-judges_same g v old new versions cards m m' n n' olders olders' result result' a b c d it =
-    subst (λ x. Judges g v versions x n' olders' cards result' old new) a
-    (subst (λ x. Judges g v versions m x olders' cards result' old new) b
-    (subst (λ x. Judges g v versions m n x cards result' old new) c
-    (subst (λ x. Judges g v versions m n olders cards x old new) d it)))
+-- equal rows come to equal things
+pub judges_same : {S : Type 0} (g : Ghosts S) (v : Version) (old new : Held S) (first first' : FirstRows)
+    (result result' : Result Sizes OpenFault) → first ≡ first' → result ≡ result'
+    → Judges g v first result old new → Judges g v first' result' old new
+judges_same g v old new first first' result result' a b it =
+    subst (λ x. Judges g v x result' old new) a (subst (λ x. Judges g v first x old new) b it)
 
 module _ {S : Type 0} (g : Ghosts S) (v : Version) (old mid new : Held S)
     (same : IsUnchanged (state g old) (state g mid)) where
@@ -56,14 +49,13 @@ module _ {S : Type 0} (g : Ghosts S) (v : Version) (old mid new : Held S)
   unjudged_all (Err e) failed =
       (failed.0, λ store. subst (λ db. IsUnreadOne g v db new) same.0.now_is (failed.1 store))
 
-  module _ (versions : List RawVersion) (merchants : List RawMerchant) (counts : List RawCount)
-      (olders : List OldEntry) (cards : List RawCard)
+  module _ (named : NamedRows) (olders : List OldEntry) (cards : List RawCard)
       (are : AreCardsIn v (state g old).now olders cards) where
     -- what the rows behind the cards come to is what all rows come to
     pub all_onward : (whole : Result Judged OpenFault) → IfOk whole (λ it. it.olders.items ≡ olders)
-        → Judges g v versions merchants counts olders cards (sizes_in whole) mid new
-        → JudgesAll g v versions merchants counts whole old new
-    all_onward whole stays told = elim told as (λ _. JudgesAll g v versions merchants counts whole old new) [
+        → Judges g v (first_rows named olders cards) (sizes_in whole) mid new
+        → JudgesAll g v named whole old new
+    all_onward whole stays told = elim told as (λ _. JudgesAll g v named whole old new) [
       | inl failed ↦ inl (unjudged_all whole failed)
       | inr it ↦
           let rows = it.1 in
@@ -72,44 +64,30 @@ module _ {S : Type 0} (g : Ghosts S) (v : Version) (old mid new : Held S)
             olders,
             rows,
             subst (AreCardsIn v (state g old).now olders) (sym it.2.cards) are,
-            subst (λ x. AreOnward v olders (first_rows versions merchants counts x) (state g old).now rows)
-                (sym it.2.cards)
-                (subst (λ db. AreOnward v olders (first_rows versions merchants counts cards) db rows)
-                same.0.now_is it.2),
+            subst (λ x. AreOnward v (first_rows named olders x) (state g old).now rows) (sym it.2.cards)
+                (subst (λ db. AreOnward v (first_rows named olders cards) db rows) same.0.now_is it.2),
             it.3,
             stays,
           )
     ]
 
-module _ {S : Type 0} (g : Ghosts S) (v : Version) (result : Result Judged OpenFault) (old new : Held S) where
-  -- rows that are equal come to the same
-  pub judges_as : (versions versions' : List RawVersion) (merchants merchants' : List RawMerchant)
-      (counts counts' : List RawCount) → versions ≡ versions' → merchants ≡ merchants' → counts ≡ counts'
-      → JudgesAll g v versions merchants counts result old new
-      → JudgesAll g v versions' merchants' counts' result old new
-  judges_as versions versions' merchants merchants' counts counts' w m n it =
-      subst (λ x. JudgesAll g v x merchants' counts' result old new) w
-      (subst (λ x. JudgesAll g v versions x counts' result old new) m
-      (subst (λ x. JudgesAll g v versions merchants x result old new) n it))
-
-module _ {S : Type 0} (g : Ghosts S) (v : Version) (versions : List RawVersion)
-    (merchants : List RawMerchant) (counts : List RawCount) (old new : Held S) where
+module _ {S : Type 0} (g : Ghosts S) (v : Version) (named : NamedRows) (old new : Held S) where
   abbrev pub AreJudged : Result Judged OpenFault → Type 0
   AreJudged result =
       IsUnchanged (state g old) (state g new) × (olders : List OldEntry) × (rows : Rows)
       × AreCardsIn v (state g old).now olders rows.cards
-      × AreOnward v olders (first_rows versions merchants counts rows.cards) (state g old).now rows
+      × AreOnward v (first_rows named olders rows.cards) (state g old).now rows
       × IsVerdictOf rows (sizes_in result) × IfOk result (λ it. it.olders.items ≡ olders)
 
   -- what came out well, and what was judged, was read
-  pub judged_ok : (it : Judged) → JudgesAll g v versions merchants counts (Ok it) old new → AreJudged (Ok it)
+  pub judged_ok : (it : Judged) → JudgesAll g v named (Ok it) old new → AreJudged (Ok it)
   judged_ok it told = elim told as (λ _. AreJudged (Ok it)) [
     | inl failed ↦ absurd failed
     | inr it ↦ it
   ]
 
-  pub judged_err : (fault : OpenFault) → IsJudged fault
-      → JudgesAll g v versions merchants counts (Err fault) old new → AreJudged (Err fault)
+  pub judged_err : (fault : OpenFault) → IsJudged fault → JudgesAll g v named (Err fault) old new
+      → AreJudged (Err fault)
   judged_err fault is told = elim told as (λ _. AreJudged (Err fault)) [
     | inl failed ↦ absurd (failed.0 is)
     | inr it ↦ it
@@ -121,13 +99,10 @@ pub read_onward : (v : Version) (old mid last : State) (versions : List RawVersi
     → (HasVersion old.now.schema → IsDatabase old.now)
     → (HasVersion old.now.schema → AreVersions old.now.trees versions) → last.now ≡ mid.now
     → AreFirst v mid.now first → AreCardsIn v last.now olders rows.cards
-    → AreOnward v olders (first_rows versions first.merchants.items first.counts.items rows.cards) last.now
-    rows
-    → IsFullIn v old.now → AreRead v old.now olders rows
+    → AreOnward v (first_rows (named_in versions first) olders rows.cards) last.now rows → IsFullIn v old.now → AreRead v old.now olders rows
 read_onward v old mid last versions first olders rows same sound are now firsts cards onward ours =
     are_read v old mid versions olders rows onward.versions same sound are
     (λ has. all_of v mid.now first olders versions rows firsts
     (subst (λ db. AreCardsIn v db olders rows.cards) now cards)
-    (subst (λ db. AreOnward v olders (first_rows versions first.merchants.items first.counts.items rows.cards)
-    db rows) now
-    onward)) ours
+    (subst (λ db. AreOnward v (first_rows (named_in versions first) olders rows.cards) db rows) now onward))
+    ours

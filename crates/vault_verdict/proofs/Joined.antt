@@ -124,20 +124,19 @@ pub taken_both : (v : Version) (db now : Database) (olders : List OldEntry) (sta
     → HasRecords begun [] → now ≡ db
     → IfOk r (λ it. (raws : List RawRecord) × RecordsTaken begun it raws
     × AreTable IsAny (λ t. t 8) record_values (λ x. x.rowid) now raws)
-    → IfOk r (λ it. (es : List RawEntry) × (rs : List RawRecord) × AreTaken v db olders start it es rs)
+    → IfOk r (AreTaken v db olders start)
 taken_both v db now olders start mid begun (Err e) entries took are is none same told = tt
 taken_both v db now olders start mid begun (Ok it) entries took are is none same told =
     let came = told.1 none in
-    let whose = came.0 ∙ is in (
-      entries,
-      told.0,
-      record {
-        index_is = λ cards fresh. ap (λ (e : Entries). e.index) whose ∙ (took cards fresh).0;
-        entries_came = λ cards fresh.
-            subst (λ e. HasEntries e cards entries) (sym whose) (took cards fresh).1;
-        records_came = came.1;
-        entries_are = are;
-        records_are =
-            subst (λ d. AreTable IsAny (λ t. t 8) record_values (λ x. x.rowid) d told.0) same told.2;
-      },
-    )
+    let whose = came.0 ∙ is in
+    record {
+      entries = entries;
+      records = told.0;
+      index_is = λ cards fresh. ap (λ (e : Entries). e.index) whose ∙ (took cards fresh).0;
+      entries_came = λ cards fresh.
+          subst (λ e. HasEntries e cards entries) (sym whose) (took cards fresh).1;
+      records_came = came.1;
+      entries_are = are;
+      records_are =
+          subst (λ d. AreTable IsAny (λ t. t 8) record_values (λ x. x.rowid) d told.0) same told.2;
+    }

@@ -32,7 +32,7 @@ use Rattle.vault_tables.specs.RecordTexts.{record_values}
 use Rattle.vault_verdict.specs.ReadAs.{AreCards, AreOlders}
 use Rattle.vault_verdict.specs.ReadAs.{AreEntries, AreFull, IsFullIn, merchants_in, replaced_in}
 use Rattle.vault_verdict.specs.ReadAs.{rights_in}
-use Rattle.vault_verdict.specs.Judging.{AreOnward, first_rows}
+use Rattle.vault_verdict.specs.Judging.{AreOnward, first_rows, named_in}
 use Rattle.vault_verdict.specs.Reading.{AreCardsIn, AreEntriesIn, AreFirst}
 use Rattle.vault_verdict.specs.Reading.{AreOldCards, ArePointingFull, IsOurs}
 use Rattle.sql_tables.specs.Reading.{AreLonger, AreTable, IsAny}
@@ -155,7 +155,7 @@ are_read v old mid versions olders rows is same sound are told ours =
 -- the first rows, the cards and those behind them are all
 pub all_of : (v : Version) (db : Database) (first : First) (olders : List OldEntry)
     (versions : List RawVersion) (rows : Rows) → AreFirst v db first → AreCardsIn v db olders rows.cards
-    → AreOnward v olders (first_rows versions first.merchants.items first.counts.items rows.cards) db rows
+    → AreOnward v (first_rows (named_in versions first) olders rows.cards) db rows
     → AreAll v db olders rows
 all_of v db first olders versions rows are cards onward = record {
   merchants = subst (AreTable (AreMerchantsFull v) (merchants_in v) merchant_values (λ m. m.rowid) db)

@@ -8,16 +8,18 @@ use Rattle.sqlite.specs.Order.{Row}
 use Rattle.sqlite.specs.Tree.{Trees}
 use Rattle.sqlite_schema.specs.declared.schema.Column.{Column}
 use Rattle.sqlite_trees.specs.declared.store.Store.{Ghosts}
-use Rattle.sql_tables.specs.Reading.{AreLonger, IsAny, IsUnread, any_left}
+use Rattle.sql_tables.specs.Reading.{AreLonger, IsAny, IsUnread, TableLook, any_left}
 use Rattle.sql_tables.specs.Scans.{id_values}
 use Rattle.vault_rules.specs.AllRows.{Rows}
+use Rattle.vault_rules.specs.declared.rows.RawMerchant.{RawMerchant}
+use Rattle.vault_rules.specs.declared.rows.RawRight.{RawRight}
 use Rattle.vault_schema.specs.Layers.{Either, Layer, is_from, is_past}
 use Rattle.vault_schema.specs.Versions.{has_cards, layers, schema_of}
 use Rattle.vault_tables.specs.declared.entries.old.TheConstants.{READ_OLD_ENTRY_IDS}
 use Rattle.vault_schema.specs.declared.version.Version.{Version}
 use Rattle.vault_schema.specs.declared.version.Version.TheVariants.{Three, Four}
-use Rattle.vault_tables.specs.MerchantTexts.{with_first_lead}
-use Rattle.vault_tables.specs.RightTexts.{with_first_end}
+use Rattle.vault_tables.specs.MerchantTexts.{merchant_values, with_first_lead}
+use Rattle.vault_tables.specs.RightTexts.{right_values, with_first_end}
 use Rattle.vault_tables.specs.declared.merchants.TheConstants.{READ_MERCHANTS}
 use Rattle.vault_tables.specs.declared.merchants.old.TheConstants.{READ_MERCHANT_IDS, READ_OLD_MERCHANTS}
 use Rattle.vault_tables.specs.declared.rights.TheConstants.{READ_RIGHTS}
@@ -110,6 +112,25 @@ merchants_text v = cond (is_from Three v) READ_MERCHANTS.now READ_OLD_MERCHANTS.
 
 abbrev pub rights_text : Version → List ℕ
 rights_text v = cond (is_from Four v) READ_RIGHTS.now READ_OLD_RIGHTS.now
+
+-- how the merchants of a version are read, and its rights
+abbrev pub merchants_look : Version → TableLook RawMerchant
+merchants_look v = record {
+  look = record { schema = schema_of v; text = merchants_text v; values = merchant_values };
+  full = AreMerchantsFull v;
+  rows = merchants_in v;
+  stands = merchant_values;
+  id = λ raw. raw.rowid;
+}
+
+abbrev pub rights_look : Version → TableLook RawRight
+rights_look v = record {
+  look = record { schema = schema_of v; text = rights_text v; values = right_values };
+  full = AreRightsFull v;
+  rows = rights_in v;
+  stands = right_values;
+  id = λ raw. raw.rowid;
+}
 
 -- why the tables that were replaced aren't counted, though memory is there
 abbrev pub IsUnreadReplaced : {S : Type 0} → Ghosts S → Database → Held S → Type 0

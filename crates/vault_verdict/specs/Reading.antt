@@ -1,7 +1,7 @@
 -- Reading the whole of a table.
 use Rattle.std.specs.List.{filter_map}
 use Rattle.std.specs.Prelude.{◌≡◌, ◌≤◌, ◌⊎◌, false, List, [], ◌∷◌, map}
-use Rattle.std.specs.Prelude.{Result, IfErr, IfOk}
+use Rattle.std.specs.Prelude.{Result, IfOk}
 use Rattle.sqlite.specs.Effect.{Database}
 use Rattle.sqlite.specs.Held.{Held, state}
 use Rattle.sqlite.specs.Order.{Row}
@@ -20,13 +20,13 @@ use Rattle.vault_tables.specs.RecordTexts.{record_values}
 use Rattle.vault_tables.specs.VersionTexts.{version_values}
 use Rattle.vault_verdict.specs.ReadAs.{AreFull, AreMerchantsFull, AreRightsFull, IsFullIn, IsUnreadReplaced}
 use Rattle.vault_verdict.specs.ReadAs.{merchants_in, merchants_text, replaced_in, rights_in, rights_text}
-use Rattle.vault_tables.specs.Taken.{CardsTaken, EntriesTaken}
+use Rattle.vault_tables.specs.Taken.{CardsTaken}
 use Rattle.vault_verdict.specs.declared.behind.Behind.{Behind}
 use Rattle.vault_verdict.specs.declared.first_rows.First.{First}
 use Rattle.vault_verdict.specs.declared.whole_tables.WithCards.{WithCards}
-use Rattle.sql_tables.specs.Reading.{AreLonger, AreTable, IsAny, IsUnread}
+use Rattle.sql_tables.specs.Reading.{AreLonger, AreTable, InSchema, IsAny, IsUnread}
+use Rattle.vault_verdict.specs.ReadIn.{RefusesIn}
 use Rattle.sql_tables.specs.declared.fault.StoreFault.{StoreFault}
-use Rattle.sql_tables.specs.declared.fault.StoreFault.TheVariants.{Store}
 use Rattle.vault_rules.specs.declared.rows.RawCard.{RawCard}
 use Rattle.vault_rules.specs.HeldRows.{HoldCards}
 use Rattle.vault_rules.specs.Seen.{HasEntries, HasRecords}
@@ -73,6 +73,10 @@ AreOldFull db = AreLonger 7 (db.trees 5)
 abbrev pub ArePointingFull : Database → Type 0
 ArePointingFull db = AreLonger 7 (db.trees 14)
 
+-- what was read of the cards
+abbrev pub AreCardTable : Database → List RawCard → Type 0
+AreCardTable db raws = AreTable IsAny (λ t. t 12) card_row (λ c. c.id) db raws
+
 -- what was read of the entries of schema 1, and the cards of them
 pub record AreOldCards (db : Database) (olders : List OldEntry) (cards : List RawCard) : Type 0 where
   pub read : AreTable AreOldFull (λ t. t 5) old_entry_values (λ o. o.rowid) db olders
@@ -81,8 +85,7 @@ pub record AreOldCards (db : Database) (olders : List OldEntry) (cards : List Ra
 -- the cards of a version, with the entries of schema 1
 abbrev pub AreCardsIn : Version → Database → List OldEntry → List RawCard → Type 0
 AreCardsIn v db olders cards =
-    Either (has_cards v) (AreTable IsAny (λ t. t 12) card_row (λ c. c.id) db cards)
-    (AreOldCards db olders cards)
+    Either (has_cards v) (AreCardTable db cards) (AreOldCards db olders cards)
 
 -- the entries of a version: those of schema 1 are made of the old ones
 abbrev pub AreEntriesIn : Version → Database → List OldEntry → List RawEntry → Type 0
@@ -96,18 +99,22 @@ pub record AreFirst (v : Version) (db : Database) (it : First) : Type 0 where
       it.merchants.items
   pub counts : AreTable IsAny (λ t. t 3) count_values (λ c. c.rowid) db it.counts.items
 
--- the entries and the records of a version, of which these were taken
+-- the entries and the records of a version were taken
 pub record AreTaken (v : Version) (db : Database) (olders : List OldEntry) (start : Entries) (it : Records)
-    (entries : List RawEntry) (records : List RawRecord) : Type 0 where
+    : Type 0 where
+  pub entries : List RawEntry
+  pub records : List RawRecord
   pub index_is : (cards : List RawCard) → HasEntries start cards [] → it.entries.index ≡ start.index
   pub entries_came : (cards : List RawCard) → HasEntries start cards [] → HasEntries it.entries cards entries
   pub records_came : HasRecords it records
   pub entries_are : AreEntriesIn v db olders entries
   pub records_are : AreTable IsAny (λ t. t 8) record_values (λ r. r.rowid) db records
 
--- the rows of a version behind the first ones, of which these entries and records were taken
+-- the rows of a version behind the first ones were taken
 pub record AreBehind (v : Version) (db : Database) (olders : List OldEntry) (index : Index) (it : Behind)
-    (entries : List RawEntry) (records : List RawRecord) : Type 0 where
+    : Type 0 where
+  pub entries : List RawEntry
+  pub records : List RawRecord
   pub index_is : (cards : List RawCard) → HoldCards index.merchants.now index.cards cards
       → it.records.entries.index ≡ index
   pub entries_came : (cards : List RawCard) → HoldCards index.merchants.now index.cards cards
@@ -119,6 +126,10 @@ pub record AreBehind (v : Version) (db : Database) (olders : List OldEntry) (ind
   pub replaced : it.replaced ≡ replaced_in v db.trees
 
 module _ {S : Type 0} (g : Ghosts S) where
+  -- why the rows of `vault` aren't read, though memory is there
+  abbrev pub AreVersionsUnread : Database → Held S → Type 0
+  AreVersionsUnread db new = IsUnread g READ_VERSIONS.now version_values db new
+
   -- why the cards or the entries that point at them aren't read, though memory is there
   abbrev pub IsUnreadCards : Database → Held S → Type 0
   IsUnreadCards db new =
@@ -133,21 +144,9 @@ module _ {S : Type 0} (g : Ghosts S) where
   pub record ReadsCards (v : Version) (start : Index) (result : Result WithCards StoreFault)
       (old new : Held S) : Type 0 where
     pub reads : Reads (schema_of v) result (state g old) (state g new)
-    pub told : HasCleanDisk (state g new) → (state g old).now.schema ≡ schema_of v
-        → IfOk result (λ it. (raws : List RawCard) × CardsTaken start it.index raws
-        × AreCardsIn v (state g old).now it.olders.items raws)
-    pub refused : HasCleanDisk (state g new) → (state g old).now.schema ≡ schema_of v
-        → IfErr result (λ e. e ≡ Store → IsUnreadEntries v (state g old).now new)
-
-  -- the entries of a version are taken, one after the other: those of schema 1 without the database
-  pub record TakesEntries (v : Version) (olders : List OldEntry) (start : Entries)
-      (result : Result Entries StoreFault) (old new : Held S) : Type 0 where
-    pub reads : Reads (schema_of v) result (state g old) (state g new) ⊎ (new ≡ old)
-    pub told : HasCleanDisk (state g new) → (state g old).now.schema ≡ schema_of v
-        → IfOk result (λ it. (raws : List RawEntry) × EntriesTaken start it raws
-        × AreEntriesIn v (state g old).now olders raws)
-    pub refused : HasCleanDisk (state g new) → (state g old).now.schema ≡ schema_of v
-        → IfErr result (λ e. e ≡ Store → IsUnreadEntries v (state g old).now new)
+    pub told : InSchema g (schema_of v) old new (λ db. IfOk result (λ it.
+        (raws : List RawCard) × CardsTaken start it.index raws × AreCardsIn v db it.olders.items raws))
+    pub refused : RefusesIn g (schema_of v) old new result (IsUnreadEntries v)
 
   -- why one of the tables beside `vault` isn't read, though memory is there
   abbrev pub IsUnreadOne : Version → Database → Held S → Type 0
@@ -162,7 +161,7 @@ module _ {S : Type 0} (g : Ghosts S) where
 -- why 33 is told of a database in a version: a table isn't read, or in one a rowid comes twice
 abbrev pub IsUnreadIn : {S : Type 0} → Ghosts S → Version → Database → Held S → Type 0
 IsUnreadIn g v db new =
-    IsUnread g READ_VERSIONS.now version_values db new
+    AreVersionsUnread g db new
     ⊎ (IsUnreadOne g v db new ⊎ SharesRowid v db.trees)
 
 -- so in the newest version

@@ -7,6 +7,7 @@ use Rattle.sqlite.specs.View.{doubt}
 use Rattle.sqlite_trees.specs.declared.store.Store.{Ghosts}
 use Rattle.sql_tables.specs.Schema.{no_schema}
 use Rattle.sql_tables.specs.States.{LeavesNoMore}
+use Rattle.vault_schema.specs.Stands.{newest}
 use Rattle.vault_schema.specs.Versioned.{HasVersion}
 use Rattle.vault_schema.specs.Versions.{schema_of}
 use Rattle.vault_schema.specs.declared.version.Version.{Version}
@@ -15,7 +16,7 @@ use Rattle.vault_verdict.specs.Names.{IsForeign, IsMixed, vault_names}
 use Rattle.vault_verdict.specs.Opened.{IsBrokenIn, IsFit, IsLeastBroken, IsNoRefusal, IsVersionIn, IsWrong}
 use Rattle.vault_verdict.specs.Opened.{IsNoDamage, LeavesFound, Opens}
 use Rattle.vault_verdict.specs.ReadAs.{IsFullIn}
-use Rattle.vault_verdict.specs.Reading.{IsFull, IsOurs, IsQuietWhere, IsUnreadFile}
+use Rattle.vault_verdict.specs.Reading.{IsFull, IsOurs, IsQuietWhere, IsUnreadFile, IsUnreadIn}
 use Rattle.vault_verdict.specs.declared.fault.OpenFault.{OpenFault}
 use Rattle.vault_verdict.specs.declared.fault.OpenFault.TheVariants.{Damaged, Store, WrongSchema}
 
@@ -80,11 +81,15 @@ module _ {S : Type 0} (g : Ghosts S) where
   SparesFit old new result IsFit =
       HasCleanDisk (state g new) → IfErr result (λ e. IsFit (state g old).now → IsNoRefusal e)
 
-  -- 33 comes to a database in the newest schema, with full rows, only where a table isn't read
-  abbrev pub TellsUnread : {R : Type 0} → Held S → Held S → Result R OpenFault → Type 0
-  TellsUnread old new result =
+  -- 33 comes to full rows of the version only where a table isn't read, or a rowid comes twice
+  abbrev pub TellsUnreadIn : {R : Type 0} → Version → Held S → Held S → Result R OpenFault → Type 0
+  TellsUnreadIn v old new result =
       HasCleanDisk (state g new)
-      → IfErr result (λ e. e ≡ Store → IsOurs (state g old).now → IsUnreadFile g (state g old).now new)
+      → IfErr result (λ e. e ≡ Store → IsFullIn v (state g old).now → IsUnreadIn g v (state g old).now new)
+
+  -- so in the newest version
+  abbrev pub TellsUnread : {R : Type 0} → Held S → Held S → Result R OpenFault → Type 0
+  TellsUnread = TellsUnreadIn newest
 
   -- after 30 and 31 the connection sees what it saw, where this is so
   abbrev pub LeavesSeen : {R : Type 0} → Held S → Held S → Result R OpenFault → Type 0 → Type 0

@@ -1,13 +1,11 @@
 //! The rows behind those that entries name: entries, records and rights.
-ghost use Rattle.std.specs.Prelude.{◌≡◌, IfErr, IfOk, List};
+ghost use Rattle.std.specs.Prelude.{IfOk};
 ghost use Rattle.sqlite.specs.Held.{state};
-ghost use Rattle.sqlite.specs.State.{HasCleanDisk};
+ghost use Rattle.sql_tables.specs.Reading.{InSchema};
 ghost use Rattle.sql_tables.specs.States.{Reads};
-ghost use Rattle.vault_verdict.specs.ReadIn.{ReadsIn};
+ghost use Rattle.vault_verdict.specs.ReadIn.{RefusesIn};
 ghost use Rattle.vault_verdict.specs.Reading.{AreBehind, AreTaken, IsUnreadOne};
 ghost use Rattle.vault_schema.specs.Versions.{schema_of};
-ghost use Rattle.vault_rules.specs.declared.rows.RawEntry.{RawEntry as EntryRow};
-ghost use Rattle.vault_rules.specs.declared.rows.RawRecord.{RawRecord as RecordRow};
 
 use crate::whole_tables;
 use sql_tables::fault::StoreFault;
@@ -37,10 +35,15 @@ fn taken<'a, S: Alter>(
     olders: &[OldEntry],
     start: Entries<'a>,
 ) -> Result<Records<'a>, StoreFault>
-    ensures { ReadsIn S.Store version conn.old conn.new result
-        (λ db it. (entries : List EntryRow) × (records : List RecordRow)
-        × AreTaken version db olders.now start.entry it entries records)
+    // in the version's schema, on an honest disk, Ok has taken its entries and its records
+    ensures told { InSchema S.Store (schema_of version) conn.old conn.new
+        (λ db. IfOk result (λ it. AreTaken version db olders.now start.entry it)) }
+    // in the version's schema, on an honest disk, Store comes only where a table beside `vault` isn't read
+    ensures refused { RefusesIn S.Store (schema_of version) conn.old conn.new result
         (IsUnreadOne S.Store version) }
+    // it only reads: no doubt goes away, and in the version's schema, on an honest disk, nothing changes with
+    // Ok
+    ensures reads { Reads (schema_of version) result (state S.Store conn.old) (state S.Store conn.new) }
 {
     let entries = whole_tables::entries(alloc, conn, version, olders, start)?;
     whole_tables::records(conn, Records::new(entries))
@@ -56,15 +59,11 @@ pub(crate) fn read_behind<'a, S: Alter>(
 ) -> Result<Behind<'a>, StoreFault>
     // in the version's schema, on an honest disk, Ok gives the version's rows behind the first ones, as they
     // were taken
-    ensures told { HasCleanDisk (state S.Store conn.new)
-        → (state S.Store conn.old).now.schema ≡ schema_of version
-        → IfOk result (λ it. (entries : List EntryRow) × (records : List RecordRow)
-        × AreBehind version (state S.Store conn.old).now olders.now index.entry it entries records) }
+    ensures told { InSchema S.Store (schema_of version) conn.old conn.new
+        (λ db. IfOk result (λ it. AreBehind version db olders.now index.entry it)) }
     // in the version's schema, on an honest disk, Store comes only where a table beside `vault` isn't read
-    ensures refused { HasCleanDisk (state S.Store conn.new)
-        → (state S.Store conn.old).now.schema ≡ schema_of version
-        → IfErr result (λ e. e ≡ StoreFault.Store
-        → IsUnreadOne S.Store version (state S.Store conn.old).now conn.new) }
+    ensures refused { RefusesIn S.Store (schema_of version) conn.old conn.new result
+        (IsUnreadOne S.Store version) }
     // it only reads: no doubt goes away, and in the version's schema, on an honest disk, nothing changes with
     // Ok
     ensures reads { Reads (schema_of version) result (state S.Store conn.old) (state S.Store conn.new) }

@@ -1,8 +1,9 @@
 //! The rows that cards and entries name: merchants, and their counts.
-ghost use Rattle.std.specs.Prelude.{◌≡◌, IfErr, IfOk};
+ghost use Rattle.std.specs.Prelude.{IfOk};
 ghost use Rattle.sqlite.specs.Held.{state};
-ghost use Rattle.sqlite.specs.State.{HasCleanDisk};
+ghost use Rattle.sql_tables.specs.Reading.{InSchema};
 ghost use Rattle.sql_tables.specs.States.{Reads};
+ghost use Rattle.vault_verdict.specs.ReadIn.{RefusesIn};
 ghost use Rattle.vault_verdict.specs.Reading.{AreFirst, IsUnreadOne};
 ghost use Rattle.vault_schema.specs.Versions.{schema_of};
 
@@ -27,14 +28,11 @@ pub(crate) fn read_first<S: Alter>(
     version: Version,
 ) -> Result<First, StoreFault>
     // in the version's schema, on an honest disk, Ok gives the version's merchants and counts
-    ensures told { HasCleanDisk (state S.Store conn.new)
-        → (state S.Store conn.old).now.schema ≡ schema_of version
-        → IfOk result (λ it. AreFirst version (state S.Store conn.old).now it) }
+    ensures told { InSchema S.Store (schema_of version) conn.old conn.new
+        (λ db. IfOk result (λ it. AreFirst version db it)) }
     // in the version's schema, on an honest disk, Store comes only where a table beside `vault` isn't read
-    ensures refused { HasCleanDisk (state S.Store conn.new)
-        → (state S.Store conn.old).now.schema ≡ schema_of version
-        → IfErr result (λ e. e ≡ StoreFault.Store
-        → IsUnreadOne S.Store version (state S.Store conn.old).now conn.new) }
+    ensures refused { RefusesIn S.Store (schema_of version) conn.old conn.new result
+        (IsUnreadOne S.Store version) }
     // it only reads: no doubt goes away, and in the version's schema, on an honest disk, nothing changes with
     // Ok
     ensures reads { Reads (schema_of version) result (state S.Store conn.old) (state S.Store conn.new) }

@@ -1,18 +1,18 @@
 //! Whether a file's rows are those of a sound vault.
-ghost use Rattle.std.specs.Prelude.{◌≡◌, ℤ, List, [], IfOk, IfErr, OnOk};
+ghost use Rattle.std.specs.Prelude.{◌≡◌, [], IfOk};
 ghost use Rattle.sqlite.specs.Held.{state};
 ghost use Rattle.sqlite.specs.State.{HasCleanDisk};
+ghost use Rattle.sql_tables.specs.Reading.{InSchema};
 ghost use Rattle.vault_verdict.specs.Refusals.{IsBrokenWhereFull, IsOtherIn, IsStill, IsUntouched};
 ghost use Rattle.vault_verdict.specs.Refusals.{LeavesSeen, RowsBreak, TellsNoVersion, TellsOther};
-ghost use Rattle.vault_verdict.specs.Refusals.{TellsUnread};
+ghost use Rattle.vault_verdict.specs.Refusals.{TellsUnread, TellsUnreadIn};
 ghost use Rattle.vault_verdict.specs.Opened.{AreOldersIn, IsOtherVersion};
 ghost use Rattle.vault_verdict.specs.Opened.{IsSoundIn, IsSoundOf};
 ghost use Rattle.vault_verdict.specs.ReadAs.{IsFullIn};
 ghost use Rattle.vault_verdict.specs.Reading.{IsOurs, IsQuiet};
-ghost use Rattle.vault_verdict.specs.Reading.{IsUnreadIn};
-ghost use Rattle.vault_verdict.specs.Judging.{Judges, JudgesAll};
+ghost use Rattle.vault_verdict.specs.Judging.{Judges, JudgesAll, WhereCards, first_rows, named_in};
+ghost use Rattle.vault_verdict.specs.Judging.{named_rows};
 ghost use Rattle.vault_rules.specs.HeldRows.{HoldCards};
-ghost use Rattle.vault_rules.specs.declared.rows.RawCard.{RawCard as CardRow};
 ghost use Rattle.vault_schema.specs.Schema.{newest_schema};
 ghost use Rattle.vault_schema.specs.Versions.{newest, schema_of};
 
@@ -47,11 +47,9 @@ fn judge_behind<'a, S: Alter>(
 ) -> Result<Sizes, OpenFault>
     // in the version's schema, on an honest disk, rows that weren't read aren't judged, and of all others
     // this is the verdict
-    ensures told { HasCleanDisk (state S.Store conn.new)
-        → (state S.Store conn.old).now.schema ≡ schema_of version
-        → (cards : List CardRow) → HoldCards index.entry.merchants.now index.entry.cards cards
-        → Judges S.Store version versions.now index.entry.merchants.now index.entry.counts.now olders.now
-        cards result conn.old conn.new }
+    ensures told { InSchema S.Store (schema_of version) conn.old conn.new (λ _. WhereCards index.entry (λ cards.
+        Judges S.Store version (first_rows (named_rows versions.now index.entry) olders.now cards) result
+        conn.old conn.new)) }
     ensures versioned { TellsNoVersion result }
     // in the version's schema, on an honest disk, a crash leaves nothing new; no doubt goes away, and no
     // transaction begins
@@ -71,11 +69,9 @@ fn judge_cards<'a, S: Alter>(
 ) -> Result<Judged, OpenFault>
     // in the version's schema, on an honest disk, rows that weren't read aren't judged, and of all others
     // this is the verdict
-    ensures told { HasCleanDisk (state S.Store conn.new)
-        → (state S.Store conn.old).now.schema ≡ schema_of version
-        → HoldCards index.entry.merchants.now index.entry.cards []
-        → JudgesAll S.Store version versions.now index.entry.merchants.now index.entry.counts.now result
-        conn.old conn.new }
+    ensures told { InSchema S.Store (schema_of version) conn.old conn.new (λ _.
+        HoldCards index.entry.merchants.now index.entry.cards []
+        → JudgesAll S.Store version (named_rows versions.now index.entry) result conn.old conn.new) }
     ensures versioned { TellsNoVersion result }
     // in the version's schema, on an honest disk, a crash leaves nothing new; no doubt goes away, and no
     // transaction begins
@@ -96,10 +92,8 @@ fn judge_first<S: Alter>(
 ) -> Result<Judged, OpenFault>
     // in the version's schema, on an honest disk, rows that weren't read aren't judged, and of all others
     // this is the verdict
-    ensures told { HasCleanDisk (state S.Store conn.new)
-        → (state S.Store conn.old).now.schema ≡ schema_of version
-        → JudgesAll S.Store version versions.now first.now.merchants.items first.now.counts.items result
-        conn.old conn.new }
+    ensures told { InSchema S.Store (schema_of version) conn.old conn.new (λ _.
+        JudgesAll S.Store version (named_in versions.now first.now) result conn.old conn.new) }
     ensures versioned { TellsNoVersion result }
     // in the version's schema, on an honest disk, a crash leaves nothing new; no doubt goes away, and no
     // transaction begins
@@ -135,9 +129,7 @@ pub fn verdict<S: Alter>(
         (IsOtherIn version) }
     // on an honest disk, 33 comes to full rows of the version only where a table isn't read or a rowid comes
     // twice
-    ensures unread { HasCleanDisk (state S.Store conn.new) → IfErr result (λ e. e ≡ OpenFault.Store
-        → IsFullIn version (state S.Store conn.old).now
-        → IsUnreadIn S.Store version (state S.Store conn.old).now conn.new) }
+    ensures unread { TellsUnreadIn S.Store version conn.old conn.new result }
     // on an honest disk, after 30 and 31 the connection sees what it saw, where the schema is this version's
     ensures unchanged { LeavesSeen S.Store conn.old conn.new result
         ((state S.Store conn.old).now.schema ≡ schema_of version) }
@@ -166,10 +158,8 @@ pub fn newest_verdict<S: Alter>(alloc: Global, conn: &mut Connection<S>) -> Resu
     ensures damaged { RowsBreak S.Store conn.old conn.new result
         (IsBrokenWhereFull newest) }
     // on an honest disk, in the newest schema, 30 says the other version that the database tells
-    ensures versioned { HasCleanDisk (state S.Store conn.new) → IfErr result (λ e. (n : ℤ)
-        → e ≡ OpenFault.WrongSchema n
-        → (state S.Store conn.old).now.schema ≡ newest_schema
-        → IsOtherVersion (state S.Store conn.old).now n) }
+    ensures versioned { TellsOther S.Store conn.old conn.new result
+        (λ db n. db.schema ≡ newest_schema → IsOtherVersion db n) }
     // on an honest disk, 33 comes to a vault's tables with full rows only where one isn't read or a rowid
     // comes twice
     ensures unread { TellsUnread S.Store conn.old conn.new result }

@@ -1,6 +1,6 @@
 //! Each table is read by one query, in the order of its rowids; what an older version can't hold has its
 //! default.
-ghost use Rattle.std.specs.Prelude.{◌≡◌, ◌≤◌, List, IfErr, IfOk, OnOk, cond};
+ghost use Rattle.std.specs.Prelude.{◌≡◌, ◌≤◌, ◌⊎◌, List, IfErr, IfOk, OnOk, cond};
 ghost use Rattle.sqlite.specs.Effect.{IsDatabase};
 ghost use Rattle.sqlite.specs.Held.{state};
 ghost use Rattle.sqlite.specs.State.{HasCleanDisk, IsUnchanged};
@@ -9,32 +9,26 @@ ghost use Rattle.sqlite_schema.specs.declared.schema.Index.{Index as SqlIndex};
 ghost use Rattle.sql_tables.specs.Schema.{grown};
 ghost use Rattle.sql_tables.specs.States.{Reads};
 ghost use Rattle.vault_verdict.specs.Refusals.{IsStillVersioned};
-ghost use Rattle.vault_verdict.specs.ReadIn.{ReadsIn};
-ghost use Rattle.sql_tables.specs.Reading.{AreTable, IsAny, IsUnread, ReadsTable, TakesTable};
+ghost use Rattle.sql_tables.specs.Reading.{InSchema, IsUnread, ReadsTable, TakesTable};
+ghost use Rattle.sql_tables.specs.Scans.{table_look};
 ghost use Rattle.vault_rules.specs.declared.rows.RawCard.{RawCard as CardRow};
+ghost use Rattle.vault_rules.specs.declared.rows.RawEntry.{RawEntry as EntryRow};
 ghost use Rattle.vault_schema.specs.Layers.{is_from};
 ghost use Rattle.vault_schema.specs.Schemas.{v1};
 ghost use Rattle.vault_schema.specs.Schemas.{v2};
 ghost use Rattle.vault_schema.specs.Versioned.{HasVersion};
 ghost use Rattle.vault_schema.specs.Versions.{schema_of};
-ghost use Rattle.vault_tables.specs.declared.counts.TheConstants.{READ_COUNTS};
 ghost use Rattle.vault_tables.specs.declared.entries.old.TheConstants.{READ_OLD_ENTRIES};
-ghost use Rattle.vault_tables.specs.declared.records.TheConstants.{READ_RECORDS};
-ghost use Rattle.vault_tables.specs.declared.versions.TheConstants.{READ_VERSIONS};
-ghost use Rattle.vault_tables.specs.MerchantTexts.{merchant_values};
-ghost use Rattle.vault_tables.specs.RightTexts.{right_values};
 ghost use Rattle.vault_verdict.specs.Opened.{AreVersions};
-ghost use Rattle.vault_tables.specs.CardTexts.{card_row};
-ghost use Rattle.vault_tables.specs.CountTexts.{count_values};
-ghost use Rattle.vault_tables.specs.EntryTexts.{old_entry_values};
-ghost use Rattle.vault_tables.specs.RecordTexts.{record_values};
-ghost use Rattle.vault_tables.specs.VersionTexts.{version_values};
-ghost use Rattle.vault_verdict.specs.ReadAs.{AreMerchantsFull, AreRightsFull, IsUnreadReplaced};
-ghost use Rattle.vault_verdict.specs.ReadAs.{left_in as left_spec, merchants_in, merchants_text};
-ghost use Rattle.vault_verdict.specs.ReadAs.{replaced_in, rights_in, rights_text};
-ghost use Rattle.vault_verdict.specs.Reading.{AreOldCards, AreOldFull, IsUnreadCards};
-ghost use Rattle.vault_verdict.specs.Reading.{ReadsCards, TakesEntries};
-ghost use Rattle.vault_tables.specs.Taken.{CardsTaken, RecordsTaken};
+ghost use Rattle.vault_tables.specs.CountTexts.{count_scan};
+ghost use Rattle.vault_tables.specs.EntryTexts.{old_entry_scan, old_entry_values};
+ghost use Rattle.vault_tables.specs.RecordTexts.{record_scan};
+ghost use Rattle.vault_verdict.specs.ReadAs.{IsUnreadReplaced, merchants_look, rights_look};
+ghost use Rattle.vault_verdict.specs.ReadAs.{left_in as left_spec, replaced_in};
+ghost use Rattle.vault_verdict.specs.ReadIn.{RefusesIn};
+ghost use Rattle.vault_verdict.specs.Reading.{AreCardTable, AreEntriesIn, AreOldCards, AreVersionsUnread};
+ghost use Rattle.vault_verdict.specs.Reading.{IsUnreadCards, IsUnreadEntries, ReadsCards};
+ghost use Rattle.vault_tables.specs.Taken.{CardsTaken, EntriesTaken, RecordsTaken};
 
 use crate::made;
 use sql_tables::fault::StoreFault;
@@ -77,7 +71,7 @@ pub fn version_rows<S: Alter>(
     // read
     ensures refused { HasCleanDisk (state S.Store conn.new) → HasVersion (state S.Store conn.old).now.schema
         → IfErr result (λ e. e ≡ StoreFault.Store
-        → IsUnread S.Store READ_VERSIONS.now version_values (state S.Store conn.old).now conn.new) }
+        → AreVersionsUnread S.Store (state S.Store conn.old).now conn.new) }
     // in a schema with a version, on an honest disk, a crash leaves nothing new; no doubt goes away, and no
     // transaction begins
     ensures nothing_new { IsStillVersioned S.Store conn.old conn.new }
@@ -91,9 +85,7 @@ pub(crate) fn merchants<S: Alter>(
     conn: &mut Connection<S>,
     version: Version,
 ) -> Result<Vec<RawMerchant>, StoreFault>
-    ensures { ReadsTable S.Store (merchants_text version) merchant_values (schema_of version)
-        (AreMerchantsFull version) (merchants_in version) merchant_values (λ raw. raw.rowid) result conn.old
-        conn.new }
+    ensures { ReadsTable S.Store (merchants_look version) result conn.old conn.new }
 {
     if version.is_from(Version::Three) {
         read_all::<S, Merchants>(alloc, conn)
@@ -107,8 +99,8 @@ pub(crate) fn counts<S: Alter>(
     alloc: Global,
     conn: &mut Connection<S>,
 ) -> Result<Vec<RawCount>, StoreFault>
-    ensures { (v : Version) → ReadsTable S.Store READ_COUNTS.now count_values (schema_of v) IsAny (λ t. t 3)
-        count_values (λ raw. raw.rowid) result conn.old conn.new }
+    ensures { (v : Version) → ReadsTable S.Store (table_look count_scan (schema_of v)) result conn.old
+        conn.new }
 {
     read_all::<S, Counts>(alloc, conn)
 }
@@ -118,9 +110,8 @@ pub(crate) fn records<'a, S: Alter>(
     conn: &mut Connection<S>,
     start: Records<'a>,
 ) -> Result<Records<'a>, StoreFault>
-    ensures { (v : Version) → TakesTable S.Store READ_RECORDS.now record_values (schema_of v)
-        (RecordsTaken start.entry) IsAny (λ t. t 8) record_values (λ raw. raw.rowid) result conn.old
-        conn.new }
+    ensures { (v : Version) → TakesTable S.Store (table_look record_scan (schema_of v))
+        (RecordsTaken start.entry) result conn.old conn.new }
 {
     take_all::<S, RecordsTable, _>(conn, start)
 }
@@ -131,8 +122,7 @@ pub(crate) fn rights<S: Alter>(
     conn: &mut Connection<S>,
     version: Version,
 ) -> Result<Vec<RawRight>, StoreFault>
-    ensures { ReadsTable S.Store (rights_text version) right_values (schema_of version)
-        (AreRightsFull version) (rights_in version) right_values (λ raw. raw.rowid) result conn.old conn.new }
+    ensures { ReadsTable S.Store (rights_look version) result conn.old conn.new }
 {
     if version.is_from(Version::Four) {
         read_all::<S, Rights>(alloc, conn)
@@ -146,8 +136,7 @@ fn old_entries<S: Alter>(
     alloc: Global,
     conn: &mut Connection<S>,
 ) -> Result<Vec<OldEntry>, StoreFault>
-    ensures { ReadsTable S.Store READ_OLD_ENTRIES.now old_entry_values v1 AreOldFull (λ t. t 5)
-        old_entry_values (λ raw. raw.rowid) result conn.old conn.new }
+    ensures { ReadsTable S.Store (table_look old_entry_scan v1) result conn.old conn.new }
 {
     read_all::<S, OldEntry>(alloc, conn)
 }
@@ -168,13 +157,11 @@ fn first_cards<'a, S: Alter>(
     // it only reads: no doubt goes away, and in schema 1, on an honest disk, nothing changes with Ok
     ensures reads { Reads v1 result (state S.Store conn.old) (state S.Store conn.new) }
     // in schema 1, on an honest disk, Ok gives the entries and has taken the cards of them
-    ensures told { HasCleanDisk (state S.Store conn.new) → (state S.Store conn.old).now.schema ≡ v1
-        → IfOk result (λ it. (raws : List CardRow) × CardsTaken start.entry it.index raws
-        × AreOldCards (state S.Store conn.old).now it.olders.items raws) }
+    ensures told { InSchema S.Store v1 conn.old conn.new (λ db. IfOk result (λ it.
+        (raws : List CardRow) × CardsTaken start.entry it.index raws × AreOldCards db it.olders.items raws)) }
     // in schema 1, on an honest disk, Store comes only where the entries aren't read
-    ensures refused { HasCleanDisk (state S.Store conn.new) → (state S.Store conn.old).now.schema ≡ v1
-        → IfErr result (λ e. e ≡ StoreFault.Store → IsUnread S.Store READ_OLD_ENTRIES.now old_entry_values
-        (state S.Store conn.old).now conn.new) }
+    ensures refused { RefusesIn S.Store v1 conn.old conn.new result
+        (IsUnread S.Store READ_OLD_ENTRIES.now old_entry_values) }
 {
     let olders = old_entries(alloc, conn)?;
     let index = made::cards(alloc, &olders, start)?;
@@ -192,16 +179,13 @@ fn later_cards<'a, S: Alter>(
     ensures reads { (others : List Table) (indexes : List SqlIndex) → Reads (grown v2 others indexes) result
         (state S.Store conn.old) (state S.Store conn.new) }
     // in schema 2 or one grown from it, on an honest disk, Ok has taken the cards
-    ensures told { (others : List Table) (indexes : List SqlIndex) → HasCleanDisk (state S.Store conn.new)
-        → (state S.Store conn.old).now.schema ≡ grown v2 others indexes
-        → IfOk result (λ it. (raws : List CardRow) × CardsTaken start.entry it.index raws
-        × AreTable IsAny (λ t. t 12) card_row (λ c. c.id) (state S.Store conn.old).now raws) }
+    ensures told { (ts : List Table) (is : List SqlIndex) → InSchema S.Store (grown v2 ts is) conn.old conn.new
+        (λ db. IfOk result (λ it. (raws : List CardRow) × CardsTaken start.entry it.index raws
+        × AreCardTable db raws)) }
     // in schema 2 or one grown from it, on an honest disk, Store comes only where cards or entries aren't
     // read
-    ensures refused { (others : List Table) (indexes : List SqlIndex) → HasCleanDisk (state S.Store conn.new)
-        → (state S.Store conn.old).now.schema ≡ grown v2 others indexes
-        → IfErr result (λ e. e ≡ StoreFault.Store
-        → IsUnreadCards S.Store (state S.Store conn.old).now conn.new) }
+    ensures refused { (others : List Table) (indexes : List SqlIndex) → RefusesIn S.Store
+        (grown v2 others indexes) conn.old conn.new result (IsUnreadCards S.Store) }
 {
     let index = take_all::<S, Cards, _>(conn, start)?;
     Ok(WithCards {
@@ -234,7 +218,15 @@ pub(crate) fn entries<'a, S: Alter>(
     olders: &[OldEntry],
     start: Entries<'a>,
 ) -> Result<Entries<'a>, StoreFault>
-    ensures { TakesEntries S.Store version olders.now start.entry result conn.old conn.new }
+    // it only reads the database, or leaves it alone
+    ensures reads { Reads (schema_of version) result (state S.Store conn.old) (state S.Store conn.new)
+        ⊎ (conn.new ≡ conn.old) }
+    // in the version's schema, on an honest disk, Ok has taken its entries
+    ensures told { InSchema S.Store (schema_of version) conn.old conn.new (λ db. IfOk result (λ it.
+        (raws : List EntryRow) × EntriesTaken start.entry it raws × AreEntriesIn version db olders.now raws)) }
+    // in the version's schema, on an honest disk, Store comes only where its entries or its cards aren't read
+    ensures refused { RefusesIn S.Store (schema_of version) conn.old conn.new result
+        (IsUnreadEntries S.Store version) }
 {
     if version.is_from(Version::Two) {
         take_all::<S, EntriesTable, _>(conn, start)
@@ -269,8 +261,15 @@ pub(crate) fn replaced<S: Alter>(
     conn: &mut Connection<S>,
     version: Version,
 ) -> Result<u64, StoreFault>
-    ensures { ReadsIn S.Store version conn.old conn.new result
-        (λ db n. n ≡ replaced_in version db.trees) (IsUnreadReplaced S.Store) }
+    // it only reads: no doubt goes away, and in the version's schema, on an honest disk, nothing changes with
+    // Ok
+    ensures reads { Reads (schema_of version) result (state S.Store conn.old) (state S.Store conn.new) }
+    // in the version's schema, on an honest disk, Ok counts them
+    ensures told { InSchema S.Store (schema_of version) conn.old conn.new
+        (λ db. IfOk result (λ n. n ≡ replaced_in version db.trees)) }
+    // in the version's schema, on an honest disk, Store comes only where one of them isn't read
+    ensures refused { RefusesIn S.Store (schema_of version) conn.old conn.new result
+        (IsUnreadReplaced S.Store) }
 {
     let entries = any_left::<S, OldEntry>(alloc, conn)?;
     let merchants = any_left::<S, OldMerchants>(alloc, conn)?;

@@ -5,8 +5,8 @@ use Rattle.sql_tables.proofs.Stated.{puts}
 use Rattle.sql_tables.proofs.keyed.put.Goals as goal
 
 pub returns-clause-done : goal.returns-clause-done
-returns-clause-done g c clean =
-    on_ok c.step.result (c.step.ensures.ran clean) (λ did base h k x w given.
+returns-clause-done g c k x given clean =
+    on_ok c.step.result (c.step.ensures.ran clean) (λ did base h w.
     let ran = did w.inside in
     puts g.T.Stored.at g.T.Stored.claims g.T.Stored.held g.T.Stored.said g.T.Stored.plain
     g.T.Stored.with g.T.Stored.set base

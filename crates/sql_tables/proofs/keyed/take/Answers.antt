@@ -5,8 +5,8 @@ use Rattle.sql_tables.proofs.Stated.{takes}
 use Rattle.sql_tables.proofs.keyed.take.Goals as goal
 
 pub returns-clause-done : goal.returns-clause-done
-returns-clause-done g c clean =
-    on_ok c.step.result (c.step.ensures.ran clean) (λ did base h k w given.
+returns-clause-done g c k given clean =
+    on_ok c.step.result (c.step.ensures.ran clean) (λ did base h w.
     let ran = did w.inside in
     takes g.T.Stored.at g.T.Stored.claims g.T.Stored.held g.T.Stored.said g.T.Stored.plain
     g.T.Stored.with g.T.Stored.set base

@@ -24,7 +24,7 @@ returns-in-Some g c =
     (tables_then cards later (λ t found shows so. λ V are sound now.
     let it = card_first c.in_ok-rows.rows.items t.cards m pan c.in-Some.row.now shows
     (rw (c.deref.ensures.value) at c.in-Some.ensures.value) in
-    so V pan it.0 (ap (λ r. column r 0) it.3) (record { joined = are; card = (it.1, it.2) }) sound now))
+    so it.0 (ap (λ r. column r 0) it.3) V pan (record { joined = are; card = (it.1, it.2) }) sound now))
     (λ V cards pointing found are so. so V are)
 
 pub returns : goal.returns

@@ -21,7 +21,7 @@ same_id g c id at =
 
 pub returns-in-Some : goal.returns-in-Some
 returns-in-Some g c =
-    tables_so c.in_ok-rows.ensures (λ t shown V pan id at has sound now.
+    tables_so c.in_ok-rows.ensures (λ t shown id at V pan has sound now.
     let same = same_id g (goal.at.returns-in-Some g c).After-current_rows id at in
     text_shown _ c.in_ok-rows.rows.items c.in-Some.row.now _
     (shown V pan (subst (λ (k : ℤ). HasCard t V k c.args.m.now pan) (sym same) has) sound now)
@@ -29,7 +29,7 @@ returns-in-Some g c =
 
 pub returns : goal.returns
 returns g c =
-    tables_so c.in_ok-rows.ensures (λ t shown V pan id at has sound now.
+    tables_so c.in_ok-rows.ensures (λ t shown id at V pan has sound now.
     let same = same_id g (goal.at.returns g c).After-current_rows id at in
     no_text _ c.in_ok-rows.rows.items
     (shown V pan (subst (λ (k : ℤ). HasCard t V k c.args.m.now pan) (sym same) has) sound now)

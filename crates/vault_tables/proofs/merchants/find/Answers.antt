@@ -6,6 +6,6 @@ pub returns : goal.returns
 returns g c = record {
   reads = c.find.ensures.reads;
   told = λ clean. if_ok c.find.result _ _ (c.find.ensures.told clean) (λ found told t stands.
-      told t c.args.m.now stands
+      told t stands c.args.m.now
       (rw (c.params-to_sql.ensures) refl));
 }

@@ -11,8 +11,7 @@ returns-in_err-behind-clause-told g c clean has cards held =
 
 pub returns-clause-told : goal.returns-clause-told
 returns-clause-told g c clean has cards held =
-    let it = c.in_ok-behind.ensures.told clean has in
-    let are = it.2 in
+    let are = c.in_ok-behind.ensures.told clean has in
     let behind = c.in_ok-behind.behind in
     let index = c.args.index in
     let rows : Rows = record {
@@ -20,8 +19,8 @@ returns-clause-told g c clean has cards held =
       merchants = index.merchants.now;
       counts = index.counts.now;
       cards = cards;
-      entries = it.0;
-      records = it.1;
+      entries = are.entries;
+      records = are.records;
       rights = behind.rights.items;
       replaced = behind.replaced;
     } in

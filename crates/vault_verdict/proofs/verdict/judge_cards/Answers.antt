@@ -9,7 +9,7 @@ use Rattle.vault_schema.specs.Versions.{schema_of}
 use Rattle.vault_verdict.proofs.verdict.judge_cards.Given.{Over}
 use Rattle.vault_verdict.proofs.verdict.judge_cards.Goals.{After-judge_behind}
 use Rattle.vault_verdict.proofs.verdict.judge_cards.Goals as goal
-use Rattle.vault_verdict.specs.Judging.{JudgesAll, sizes_in}
+use Rattle.vault_verdict.specs.Judging.{JudgesAll, named_rows, sizes_in}
 use Rattle.vault_verdict.specs.declared.fault.OpenFault.{OpenFault}
 use Rattle.vault_verdict.specs.declared.verdict.Judged.{Judged}
 
@@ -24,8 +24,8 @@ all_come : (g : Over) (c : After-judge_behind g) (whole : Result Judged OpenFaul
     → c.judge_behind.result ≡ sizes_in whole → HasCleanDisk (state g.S.Store c.judge_behind.new.conn)
     → (state g.S.Store c.args.conn.now).now.schema ≡ schema_of c.args.version
     → HoldCards c.args.index.merchants.now c.args.index.cards []
-    → JudgesAll g.S.Store c.args.version c.args.versions.now c.args.index.merchants.now
-    c.args.index.counts.now whole c.args.conn.now c.judge_behind.new.conn
+    → JudgesAll g.S.Store c.args.version (named_rows c.args.versions.now c.args.index) whole c.args.conn.now
+    c.judge_behind.new.conn
 all_come g c whole olders sizes clean has none =
     let middle : HasCleanDisk (state g.S.Store c.cards.new.conn) =
     omega (arith, c.judge_behind.ensures.nothing_new.clean, clean) in
@@ -34,11 +34,18 @@ all_come g c whole olders sizes clean has none =
     let held = it.1 none in
     let there = ap (λ (d : Database). d.schema) same.0.now_is ∙ has in
     all_onward g.S.Store c.args.version c.args.conn.now c.cards.new.conn c.judge_behind.new.conn same
-    c.args.versions.now c.args.index.merchants.now c.args.index.counts.now
-    c.in_ok-olders.field-0.olders.items it.0 it.2 whole olders
-    (judges_same g.S.Store c.args.version c.cards.new.conn c.judge_behind.new.conn c.args.versions.now it.0
-    _ _ _ _ _ _ _ _ (λ j. (held.0 j).now) (λ j. (held.1 j).now) c.deref.ensures.value sizes
-    (c.judge_behind.ensures.told clean there it.0 held.2))
+    (named_rows c.args.versions.now c.args.index) c.in_ok-olders.field-0.olders.items it.0 it.2 whole olders
+    (judges_same g.S.Store c.args.version c.cards.new.conn c.judge_behind.new.conn _ _ _ _
+    (λ j. record {
+      named = record {
+        versions = c.args.versions.now;
+        merchants = (held.0 j).now;
+        counts = (held.1 j).now;
+      };
+      olders = c.deref.ensures.value j;
+      cards = it.0;
+    })
+    sizes (c.judge_behind.ensures.told clean there it.0 held.2))
 
 pub returns-in_err-sizes-clause-told : goal.returns-in_err-sizes-clause-told
 returns-in_err-sizes-clause-told g c clean has none =

@@ -1,5 +1,5 @@
-use Rattle.std.proofs.Common.{◌∙◌, [], inl, refl, subst, sym}
-use Rattle.vault_verdict.proofs.FirstAndBehind.{judges_as}
+use Rattle.std.proofs.Common.{◌∙◌, [], inl, subst, sym}
+use Rattle.vault_verdict.specs.Judging.{JudgesAll}
 use Rattle.vault_verdict.proofs.Results.{failed_memory}
 use Rattle.vault_verdict.proofs.verdict.judge_first.Goals as goal
 use Rattle.vault_rules.specs.HeldRows.{HoldCards}
@@ -11,9 +11,11 @@ returns-in_err-index-clause-told g c clean has =
 pub returns-clause-told : goal.returns-clause-told
 returns-clause-told g c clean has =
     let index = c.in_ok-index.index in
-    judges_as g.S.Store c.args.version c.judge_cards.result c.args.conn.now c.judge_cards.new.conn _ _ _ _ _ _
-    refl (c.in_ok-index.ensures.merchants ∙ c.deref.ensures.value)
-    (c.in_ok-index.ensures.counts ∙ c.deref-2.ensures.value)
+    let merchants = c.in_ok-index.ensures.merchants ∙ c.deref.ensures.value in
+    let counts = c.in_ok-index.ensures.counts ∙ c.deref-2.ensures.value in
+    subst (λ x. JudgesAll g.S.Store c.args.version x c.judge_cards.result c.args.conn.now
+    c.judge_cards.new.conn)
+    (λ i. record { versions = c.args.versions.now; merchants = merchants i; counts = counts i })
     (c.judge_cards.ensures.told clean has
     (subst (λ m. HoldCards m index.cards []) (sym c.in_ok-index.ensures.merchants)
     c.in_ok-index.ensures.cards))

@@ -1,4 +1,4 @@
-use Rattle.std.proofs.Common.{◌≡◌, ◌∙◌, List, None, Ok, Result, inl, inr, refl, sym, ap, subst, arith}
+use Rattle.std.proofs.Common.{◌≡◌, ◌∙◌, List, None, Ok, Result, inl, inr, sym, ap, subst, arith}
 use Rattle.sqlite.proofs.Callers.{unchanged_then}
 use Rattle.sqlite.specs.Effect.{Database}
 use Rattle.sqlite.specs.Held.{state}
@@ -7,11 +7,11 @@ use Rattle.vault_schema.specs.Versions.{number_of, schema_of}
 use Rattle.vault_verdict.specs.Faults.{IsJudged}
 use Rattle.vault_verdict.proofs.InVersion.{has_version_in}
 use Rattle.vault_verdict.proofs.Judged.{AreRead, apart_of, by_rowid, olders_in, sound_of}
-use Rattle.vault_verdict.proofs.FirstAndBehind.{AreJudged, judged_err, judged_ok, judges_as, read_onward}
+use Rattle.vault_verdict.proofs.FirstAndBehind.{AreJudged, judged_err, judged_ok, read_onward}
 use Rattle.vault_verdict.proofs.Results.{err_where, ok_where, on_where, passed_on}
 use Rattle.vault_verdict.proofs.verdict.verdict.Given.{Over}
 use Rattle.vault_verdict.proofs.verdict.verdict.Goals as goal
-use Rattle.vault_verdict.specs.Judging.{AreOnward, JudgesAll, first_rows}
+use Rattle.vault_verdict.specs.Judging.{AreOnward, JudgesAll, NamedRows, first_rows, named_in}
 use Rattle.vault_verdict.specs.Opened.{AreOldersIn, IsSoundIn}
 use Rattle.vault_verdict.specs.ReadAs.{IsFullIn}
 use Rattle.vault_verdict.specs.Reading.{AreCardsIn, IsUnreadIn, IsUnreadOne}
@@ -23,10 +23,13 @@ use Rattle.vault_rules.specs.AllRows.{Rows}
 
 module _ (g : Over) (c : goal.After-drop-versions-2 g)
     (clean : HasCleanDisk (state g.S.Store c.judge_first.new.conn)) where
+  -- the rows that were read first
+  abbrev named : NamedRows
+  named = named_in c.in_ok-versions.versions.items c.in_ok-first.first
+
   abbrev Comes : Result Judged OpenFault → Type 0
   Comes result =
-      JudgesAll g.S.Store c.args.version c.in_ok-versions.versions.items c.in_ok-first.first.merchants.items
-      c.in_ok-first.first.counts.items result c.read_first.new.conn c.judge_first.new.conn
+      JudgesAll g.S.Store c.args.version named result c.read_first.new.conn c.judge_first.new.conn
 
   middle : HasCleanDisk (state g.S.Store c.read_first.new.conn)
   middle = omega (arith, c.judge_first.ensures.nothing_new.clean, clean)
@@ -46,25 +49,21 @@ module _ (g : Over) (c : goal.After-drop-versions-2 g)
     -- what all rows come to
     came : Comes c.judge_first.result
     came =
-        judges_as g.S.Store c.args.version c.judge_first.result c.read_first.new.conn c.judge_first.new.conn
-        _ c.in_ok-versions.versions.items _ _ _ _ c.deref-2.ensures.value refl refl
+        subst (λ versions. JudgesAll g.S.Store c.args.version (named_in versions c.in_ok-first.first)
+        c.judge_first.result c.read_first.new.conn c.judge_first.new.conn) c.deref-2.ensures.value
         (c.judge_first.ensures.told clean (ap (λ (d : Database). d.schema) next ∙ there))
 
   -- what was judged came of rows that were read
   judged : (result : Judged) → c.judge_first.result ≡ Ok result
       → (state g.S.Store c.args.conn.now).now.schema ≡ schema_of c.args.version
-      → AreJudged g.S.Store c.args.version c.in_ok-versions.versions.items
-      c.in_ok-first.first.merchants.items c.in_ok-first.first.counts.items c.read_first.new.conn
-      c.judge_first.new.conn (Ok result)
+      → AreJudged g.S.Store c.args.version named c.read_first.new.conn c.judge_first.new.conn (Ok result)
   judged result is schema =
-      judged_ok g.S.Store c.args.version c.in_ok-versions.versions.items _ _ c.read_first.new.conn
-      c.judge_first.new.conn result (subst Comes is (came schema))
+      judged_ok g.S.Store c.args.version named c.read_first.new.conn c.judge_first.new.conn result (subst Comes is (came schema))
 
   -- they are those of the file
   read_of : IsFullIn c.args.version (state g.S.Store c.args.conn.now).now → (olders : List OldEntry)
       (rows : Rows) → AreCardsIn c.args.version (state g.S.Store c.read_first.new.conn).now olders rows.cards
-      → AreOnward c.args.version olders (first_rows c.in_ok-versions.versions.items
-      c.in_ok-first.first.merchants.items c.in_ok-first.first.counts.items rows.cards)
+      → AreOnward c.args.version (first_rows named olders rows.cards)
       (state g.S.Store c.read_first.new.conn).now rows
       → AreRead c.args.version (state g.S.Store c.args.conn.now).now olders rows
   read_of ours olders rows cards onward =
@@ -112,8 +111,8 @@ pub returns-clause-damaged : goal.returns-clause-damaged
 returns-clause-damaged g c clean = err_where c.judge_first.result (λ fault is rule broken ours.
     let v = c.args.version in
     let judged = subst IsJudged (sym broken) tt in
-    let it = judged_err g.S.Store v c.in_ok-versions.versions.items _ _ c.read_first.new.conn
-    c.judge_first.new.conn fault judged (subst (Comes g c clean) is (came g c clean ours.schema)) in
+    let it = judged_err g.S.Store v (named g c clean) c.read_first.new.conn c.judge_first.new.conn fault judged
+    (subst (Comes g c clean) is (came g c clean ours.schema)) in
     let rows = it.2 in
     let read = read_of g c clean ours it.1 rows it.3 it.4 in
     record {
@@ -130,8 +129,8 @@ returns-clause-unchanged g c clean = err_where c.judge_first.result (λ fault is
     let v = c.args.version in
     let one = c.in_ok-versions.ensures.kept (early g c clean) (has_version_in v _ schema) in
     let two = c.in_ok-first.ensures.reads.kept (middle g c clean) (there g c clean schema) in
-    let it = judged_err g.S.Store v c.in_ok-versions.versions.items _ _ c.read_first.new.conn
-    c.judge_first.new.conn fault judged (subst (Comes g c clean) is (came g c clean schema)) in
+    let it = judged_err g.S.Store v (named g c clean) c.read_first.new.conn c.judge_first.new.conn fault judged
+    (subst (Comes g c clean) is (came g c clean schema)) in
     unchanged_then _ _ _ (unchanged_then _ _ _ one two) it.0)
 
 pub returns-in_err-versions-clause-unread : goal.returns-in_err-versions-clause-unread
