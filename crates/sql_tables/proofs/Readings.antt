@@ -126,24 +126,24 @@ module _ {S : Type 0} (g : Ghosts S) {R : Type 0} (table : TableLook R) (old new
 module _ {S : Type 0} (g : Ghosts S) {R : Type 0} {look : Look R} (old new : Held S) where
   module _ {tree : ℕ} (more : List Term)
       (means : IsQuery look.schema look.text (sorted_of tree [] (col 1 0 ∷ more) [] (ordered_by (0 ∷ []))))
-      where
-    -- where it is told whether any were read
-    pub tells_any : (raws : Vec R) → ReadsRows g look (Ok raws) old new → (n : ℕ)
-        → n ≡ any_left raws.items → TellsAny g look (λ t. t tree) (Ok n) old new
-    tells_any raws read n is = record {
-      reads = record {
-        clean = read.reads.clean;
-        mode = read.reads.mode;
-        limit = read.reads.limit;
-        left = read.reads.left;
-        kept = read.reads.kept;
-      };
-      told = λ clean has.
-          is ∙ any_same raws.items ((state g old).now.trees tree)
-          (many_read (state g old) (state g new) more means has look.values raws.items
-          (read.told clean has));
-      refused = λ clean has. tt;
-    }
+    where
+      -- where it is told whether any were read
+      pub tells_any : (raws : Vec R) → ReadsRows g look (Ok raws) old new → (n : ℕ)
+          → n ≡ any_left raws.items → TellsAny g look (λ t. t tree) (Ok n) old new
+      tells_any raws read n is = record {
+        reads = record {
+          clean = read.reads.clean;
+          mode = read.reads.mode;
+          limit = read.reads.limit;
+          left = read.reads.left;
+          kept = read.reads.kept;
+        };
+        told = λ clean has.
+            is ∙ any_same raws.items ((state g old).now.trees tree)
+            (many_read (state g old) (state g new) more means has look.values raws.items
+            (read.told clean has));
+        refused = λ clean has. tt;
+      }
 
   -- and where none were
   pub tells_none : {tree : ℕ} (fault : StoreFault) → ReadsRows g look (Err fault) old new

@@ -71,7 +71,8 @@ module _ {S : Type 0} (g : Ghosts S) where
   -- the table is read so, in each schema that begins with its first one
   abbrev pub ReadsScan : {R : Type 0} → Scan R → Result (Vec R) StoreFault → Held S → Held S → Type 0
   ReadsScan scan result old new =
-      (ts : List Table) (is : List Index) → ReadsTable g (table_look scan (grown scan.base ts is)) result old new
+      (ts : List Table) (is : List Index) → ReadsTable g (table_look scan (grown scan.base ts is)) result old
+      new
 
   -- and it is taken so, row by row
   abbrev pub TakesScan : {R K : Type 0} → Scan R → (K → List R → Type 0) → Result K StoreFault → Held S

@@ -144,7 +144,7 @@ pub fn put<S: Alter, T: Puts>(
 ) -> Result<(), Error>
     ensures goes_on { Proceeds S.Store tx.old tx.new }
     // with Ok, on an honest disk, tables that stood for pairs stand for them with this one put at its key
-    ensures done { (k : T.Key) (x : T.Value) → bound params.now ≡ row_of T.key T.value k x
+    ensures done { (k : _) (x : _) → bound params.now ≡ row_of T.key T.value k x
         → During S.Store tx.old tx.new (Becomes T.schema T.claims result
         (λ t. T.with t (put_at T.cmp (T.held t) k (Some x)))) }
 {

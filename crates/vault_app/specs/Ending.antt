@@ -1,5 +1,5 @@
 -- How a job ends, and what the program says of it.
-use Rattle.std.specs.Prelude.{◌≡◌, ℕ, ◌++◌, List, codes, decimal}
+use Rattle.std.specs.Prelude.{◌≡◌, ◌⊎◌, ℕ, ◌++◌, List, codes, decimal}
 use Rattle.std.specs.Fmt.{signed_decimal}
 use Rattle.vault_schema.specs.Versions.{newest, number_of as version_number}
 use Rattle.vault_refusal.specs.Refusal.{number_of}
@@ -95,6 +95,10 @@ said_on contents w w' = record {
   nothing = w' ≡ w;
   bytes = Tells (contents (inner_of w)) (contents (inner_of w')) (is_stopped w');
 }
+
+-- nothing is said, or the line of something that this is so of
+abbrev pub SaysAtMost : {X : Type 0} → Said → (X → Type 0) → (X → List ℕ) → Type 0
+SaysAtMost said Is line_of = said.nothing ⊎ ((x : _) × Is x × said.bytes (line_of x))
 
 -- A version and a refusal are said on the output, and what else stands in the way of a job on the errors; the
 -- other stream stays as it was, and at the end of a job, and of a batch with refused rows, both do. Beside a

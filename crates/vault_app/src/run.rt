@@ -52,9 +52,8 @@ fn planned<'a, P: Paths, K: Timekeeper, A: AsStr, W: Write>(
     output: &mut Watched<W>,
 ) -> Result<Plan<'a>, Conclusion>
     // with Ok, nothing went out, and it is a plan of a job that the words ask for
-    ensures planned { let world : World = world_at P.Paths (K.tells time.now) no_looks paths.now in
-        IfOk result (λ plan. (output.new ≡ output.old)
-        × AsksFor (map A.text words.now) (λ job. IsPlanOf world job plan)) }
+    ensures planned { IfOk result (λ plan. (output.new ≡ output.old) × AsksFor (map A.text words.now)
+        (λ job. IsPlanOf (world_at P.Paths (K.tells time.now) no_looks paths.now) job plan)) }
     // with Ok, the parts of the plan's task are values of their types, or the life of its trial is in range
     ensures proper { IfOk result IsProperPlan }
     // with Err, the words' job ends without a plan, the words ask for none, or memory was refused; only help
@@ -188,15 +187,11 @@ pub fn run<P: Paths, K: Timekeeper, N: Network, D: Desk, A: AsStr, R: Read, W: W
     // the status is 0, 1, 2, 3 or 4
     ensures status { (result.0 ≡ 0) ⊎ (result.0 ≡ 1) ⊎ (result.0 ≡ 2) ⊎ (result.0 ≡ 3) ⊎ (result.0 ≡ 4) }
     // with status 1, nothing went out on the errors, or which word of a job is no name or no right
-    ensures silent { result.0 ≡ 1 → (errors.new ≡ errors.old) ⊎ (placeholder : Placeholder)
-        × AsksFor (map A.text words.now) (IsMisnamed placeholder)
-        × Tells (E.contents (inner_of errors.old)) (E.contents (inner_of errors.new))
-        (is_stopped errors.new) (placeholder_line placeholder) }
+    ensures silent { result.0 ≡ 1 → SaysAtMost (said_on E.contents errors.old errors.new)
+        (λ placeholder. AsksFor (map A.text words.now) (IsMisnamed placeholder)) placeholder_line }
     // with status 0, nothing went out on the errors, or a note that the job which the words ask for may have
-    ensures silent_done { result.0 ≡ 0 → (errors.new ≡ errors.old) ⊎ (note : Note)
-        × AsksFor (map A.text words.now) (MayNote note)
-        × Tells (E.contents (inner_of errors.old)) (E.contents (inner_of errors.new))
-        (is_stopped errors.new) (note_line note) }
+    ensures silent_done { result.0 ≡ 0 → SaysAtMost (said_on E.contents errors.old errors.new)
+        (λ note. AsksFor (map A.text words.now) (MayNote note)) note_line }
     // with status 2 or 3, the input is unread
     ensures unread { (result.0 ≡ 2) ⊎ (result.0 ≡ 3) → input.new ≡ input.old }
     // with status 1, the input is unread, unless the words ask for a batch

@@ -21,10 +21,9 @@ use Rattle.vault_refusal.specs.Refusal.{number_of}
 use Rattle.vault_recover.specs.Crashed.{AreBlank, HoldsEither, IsOpenOf}
 use Rattle.vault_recover.specs.Crashed.{Keeps, KeepsEither, KeepsFirst, MayFind, Reopens, ReopensEither}
 use Rattle.vault_recover.specs.Crashed.{ReopensFirst}
-use Rattle.vault_verdict.specs.Opened.{IsLeastBroken, IsSoundOf, IsWrong, Opens}
+use Rattle.vault_verdict.specs.Opened.{HasSizes, IsLeastBroken, IsWrong, Opens}
 use Rattle.vault_verdict.specs.declared.fault.OpenFault.TheVariants.{Damaged, WrongSchema}
 use Rattle.vault_verdict.specs.Reading.{IsFull}
-use Rattle.vault_verdict.specs.Sizes.{sizes_of}
 use Rattle.vault_verdict.specs.declared.sizes.Sizes.{Sizes}
 use Rattle.vault_schema.specs.Holds.{AreOurs, Holds, LeavesEither, LeavesFirst}
 use Rattle.sqlite.specs.Schema.{Schema}
@@ -75,10 +74,6 @@ pub record RefusesRightly (image : Image) (why : NotOpened) : Type 0 where
 -- an open of files with these bytes may find no table
 abbrev pub MayFindNone : Image → Type 0
 MayFindNone image = (found : Trees) × AreBlank found × MayFind image found
-
--- these are the sizes of the vault there: the empty one, where there is no table
-abbrev pub HasSizes : Database → Sizes → Type 0
-HasSizes db sizes = (db.schema ≡ no_schema) × (sizes ≡ sizes_of empty_vault) ⊎ IsSoundOf db sizes
 
 -- A check tells these sizes of such a database alone: it has no table, or those of a vault and no others; and
 -- where no row lacks its last column, the sizes are its.

@@ -2,7 +2,6 @@
 ghost use Rattle.std.specs.Prelude.{◌≡◌, ◌↔◌, false, None, IfOk, IfSome, IsTrue};
 ghost use Rattle.sqlite.specs.Files.{file_state};
 ghost use Rattle.sqlite.specs.State.{HasCleanDisk};
-ghost use Rattle.sqlite.specs.Tree.{Trees};
 ghost use Rattle.vault_core.specs.Vault.{Vault};
 ghost use Rattle.vault_file.specs.Found.{IsNoPath};
 ghost use Rattle.vault_file.specs.Paths.{Each};
@@ -101,6 +100,5 @@ pub trait Paths: Drop {
         // on an honest disk, where the bytes keep no table or the empty vault, no table is seen or the empty
         // vault is held
         ensures first { IfSome result (λ c. Each (holds self path.now) (λ image. HasCleanDisk (file_state c)
-            → (before : Trees) → AreBlank before → KeepsFirst image before
-            → HoldsFirst (file_state c) before)) };
+            → (before : _) → AreBlank before → KeepsFirst image before → HoldsFirst (file_state c) before)) };
 }

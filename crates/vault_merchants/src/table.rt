@@ -6,7 +6,8 @@ ghost use Rattle.toml.specs.View.{table_view};
 ghost use Rattle.vault_core.specs.Keys.{Bytes};
 ghost use Rattle.vault_core.specs.Name.{IsName};
 ghost use Rattle.vault_pan.specs.declared.lead.Lead.{Lead as LeadOf};
-ghost use Rattle.vault_merchants.specs.ListedMerchants.{AreLivesOf, HasOnly, IsKnown, IsLeadOf, IsLifeOf, IsTableOf};
+ghost use Rattle.vault_merchants.specs.ListedMerchants.{AreLivesOf, HasOnly, IsKnown, IsLeadOf};
+ghost use Rattle.vault_merchants.specs.ListedMerchants.{IsLifeOf, IsTableOf};
 
 use toml::Table;
 use vault_core::limit::LONGEST_LIFE;

@@ -1,8 +1,8 @@
 //! A vault in an older schema is checked whole before it moves.
 ghost use Rattle.std.specs.Prelude.{◌≡◌, IfNone, IfOk, IfSome, OnOk};
 ghost use Rattle.sqlite.specs.Effect.{IsDatabase};
-ghost use Rattle.sqlite.specs.Held.{state};
 ghost use Rattle.sqlite.specs.State.{HasCleanDisk};
+ghost use Rattle.sql_tables.specs.Transactions.{Between};
 ghost use Rattle.vault_verdict.specs.Refusals.{IsBrokenWhereFull, IsOtherIn, IsStill, IsUntouched};
 ghost use Rattle.vault_verdict.specs.Refusals.{RowsBreak, TellsOther};
 ghost use Rattle.vault_core.specs.Vault.{Vault};
@@ -50,15 +50,14 @@ pub(crate) fn judged<S: Alter>(
     ensures storable { IfOk result (λ xs. AreStorable xs.items) }
     // on an honest disk, Ok gives the entries of a vault held in a version without cards; of another this
     // says nothing
-    ensures given { HasCleanDisk (state S.Store conn.new) → IfOk result (λ xs. (V : Vault)
-        → HoldsIn version V (state S.Store conn.old) → AreFor version (joined xs.items) (lookups_of V)) }
+    ensures given { Between S.Store conn.old conn.new (λ old new. HasCleanDisk new → IfOk result (λ xs.
+        (V : Vault) → HoldsIn version V old → AreFor version (joined xs.items) (lookups_of V))) }
     // with Ok, on an honest disk, a vault that was held in the version is held in it still
-    ensures held { HasCleanDisk (state S.Store conn.new) → OnOk result ((V : Vault)
-        → HoldsIn version V (state S.Store conn.old) → HoldsIn version V (state S.Store conn.new)) }
+    ensures held { Between S.Store conn.old conn.new (λ old new. HasCleanDisk new → OnOk result
+        ((V : Vault) → HoldsIn version V old → HoldsIn version V new)) }
     // with Ok, on an honest disk, full rows of the version are a sound database and stand for a sound vault
-    ensures sound { HasCleanDisk (state S.Store conn.new)
-        → OnOk result (IsFullIn version (state S.Store conn.old).now
-        → IsDatabase (state S.Store conn.old).now × StandsSoundIn version (state S.Store conn.old).now) }
+    ensures sound { Between S.Store conn.old conn.new (λ old new. HasCleanDisk new → OnOk result
+        (IsFullIn version old.now → IsDatabase old.now × StandsSoundIn version old.now)) }
     // with Ok, on an honest disk, nothing changed in the schema of the version
     ensures kept { IsUntouched S.Store version conn.old conn.new result }
     // on an honest disk, 31 says the least rule that the rows break, where they are full and the version's

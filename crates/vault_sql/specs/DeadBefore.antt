@@ -19,8 +19,8 @@ HasNoDeadBefore V m at from =
 abbrev pub first_dead : Vault → Bytes → ℕ → ℕ → List Row
 first_dead V m now many = map text_column (take many (dead_tokens V m now))
 
--- The rows are the first so many of a merchant's tokens that are dead at a moment, in order: where none before
--- this text is, and the moment is the later one of the merchant's and another.
+-- The rows are the first so many of a merchant's tokens that are dead at a moment, in order: where none
+-- before this text is, and the moment is the later one of the merchant's and another.
 abbrev pub AreFirstDead : Vault → Bytes → ℕ → Bytes → ℕ → List Row → Type 0
 AreFirstDead V m at from many rows =
     HasNoDeadBefore V m at from → (now : ℕ) → moment_at V m now ≡ at

@@ -6,6 +6,7 @@ use Rattle.sqlite_rules.specs.Lists.{Has}
 use Rattle.sql_tables.specs.Rows.{put}
 use Rattle.vault_core.specs.Keys.{Bytes, entry_cmp}
 use Rattle.vault_core.specs.declared.row.Entry.{Entry}
+use Rattle.sqlite.specs.State.{State}
 use Rattle.sqlite.specs.Tree.{Trees}
 use Rattle.vault_schema.specs.Layers.{Either}
 use Rattle.vault_schema.specs.Versions.{AreOf, Lookups, has_cards, next_of}
@@ -38,10 +39,13 @@ without_entries h = record h { entries = λ key. None }
 abbrev pub AreFor : Version → List (Bytes × Bytes × Entry) → Lookups → Type 0
 AreFor v entries h = Either (has_cards v) (Unit {0}) (AreEntriesOf entries h)
 
--- a sound database whose rows stand for this in a version, or in the next one
-abbrev pub AreOfOrNext : Version → Lookups → Trees → Type 0
-AreOfOrNext v h db = AreOf v h db ⊎ AreOf (next_of v) h db
-
 -- a sound database whose rows stand for this in some version
 abbrev pub AreSome : Lookups → Trees → Type 0
 AreSome h db = (v : Version) × AreOf v h db
+
+-- a crash leaves what stands for this in the version or in the next one, and in some version
+abbrev pub LeavesInEither : Version → Lookups → State → Type 0
+LeavesInEither v h st = (db : Trees) → st.may_leave db → AreOf v h db ⊎ AreOf (next_of v) h db
+
+abbrev pub LeavesInSome : Lookups → State → Type 0
+LeavesInSome h st = (db : Trees) → st.may_leave db → AreSome h db

@@ -16,7 +16,8 @@ use Rattle.sqlite_tied.specs.Compute.{everything}
 use Rattle.sql_tables.proofs.Scans.{long_scan}
 use Rattle.sql_tables.specs.Scans.{Scan, IdScan}
 use Rattle.sql_tables.specs.Schema.{grown}
-use Rattle.sql_tables.specs.Texts.{IsQuery, IsWrite, query_of, by_key, insert, eq, met_update, upsert, first_of}
+use Rattle.sql_tables.specs.Texts.{IsQuery, IsWrite, query_of, by_key, insert, eq, met_update, upsert}
+use Rattle.sql_tables.specs.Texts.{first_of}
 use Rattle.sql_tables.specs.Texts.{sorted_of, ordered_by}
 use Rattle.sql_tables.specs.Values.{int_value, maybe_text_value, row_text_value}
 use Rattle.vault_rules.specs.declared.rows.RawEntry.{RawEntry}

@@ -9,7 +9,7 @@ use Rattle.vault_schema.specs.Versioned.{HasVersion}
 use Rattle.vault_schema.specs.declared.version.Version.{Version}
 use Rattle.vault_verdict.proofs.Judged.{AreRead, all_of, are_read}
 use Rattle.vault_verdict.specs.Faults.{IsJudged}
-use Rattle.vault_verdict.specs.Judging.{AreOnward, FirstRows, IsUnjudged, IsVerdictOf, Judges, JudgesAll}
+use Rattle.vault_verdict.specs.Judging.{AreOnward, FirstRows, IsUnjudged, IsVerdictOf, ComeTo, AllComeTo}
 use Rattle.vault_verdict.specs.Judging.{NamedRows, first_rows, named_in, sizes_in}
 use Rattle.vault_verdict.specs.Opened.{AreVersions}
 use Rattle.vault_verdict.specs.ReadAs.{IsFullIn}
@@ -37,9 +37,9 @@ none_of (Err e) fault P same = tt
 -- equal rows come to equal things
 pub judges_same : {S : Type 0} (g : Ghosts S) (v : Version) (old new : Held S) (first first' : FirstRows)
     (result result' : Result Sizes OpenFault) → first ≡ first' → result ≡ result'
-    → Judges g v first result old new → Judges g v first' result' old new
+    → ComeTo g v first result old new → ComeTo g v first' result' old new
 judges_same g v old new first first' result result' a b it =
-    subst (λ x. Judges g v x result' old new) a (subst (λ x. Judges g v first x old new) b it)
+    subst (λ x. ComeTo g v x result' old new) a (subst (λ x. ComeTo g v first x old new) b it)
 
 module _ {S : Type 0} (g : Ghosts S) (v : Version) (old mid new : Held S)
     (same : IsUnchanged (state g old) (state g mid)) where
@@ -53,9 +53,9 @@ module _ {S : Type 0} (g : Ghosts S) (v : Version) (old mid new : Held S)
       (are : AreCardsIn v (state g old).now olders cards) where
     -- what the rows behind the cards come to is what all rows come to
     pub all_onward : (whole : Result Judged OpenFault) → IfOk whole (λ it. it.olders.items ≡ olders)
-        → Judges g v (first_rows named olders cards) (sizes_in whole) mid new
-        → JudgesAll g v named whole old new
-    all_onward whole stays told = elim told as (λ _. JudgesAll g v named whole old new) [
+        → ComeTo g v (first_rows named olders cards) (sizes_in whole) mid new
+        → AllComeTo g v named whole old new
+    all_onward whole stays told = elim told as (λ _. AllComeTo g v named whole old new) [
       | inl failed ↦ inl (unjudged_all whole failed)
       | inr it ↦
           let rows = it.1 in
@@ -80,13 +80,13 @@ module _ {S : Type 0} (g : Ghosts S) (v : Version) (named : NamedRows) (old new 
       × IsVerdictOf rows (sizes_in result) × IfOk result (λ it. it.olders.items ≡ olders)
 
   -- what came out well, and what was judged, was read
-  pub judged_ok : (it : Judged) → JudgesAll g v named (Ok it) old new → AreJudged (Ok it)
+  pub judged_ok : (it : Judged) → AllComeTo g v named (Ok it) old new → AreJudged (Ok it)
   judged_ok it told = elim told as (λ _. AreJudged (Ok it)) [
     | inl failed ↦ absurd failed
     | inr it ↦ it
   ]
 
-  pub judged_err : (fault : OpenFault) → IsJudged fault → JudgesAll g v named (Err fault) old new
+  pub judged_err : (fault : OpenFault) → IsJudged fault → AllComeTo g v named (Err fault) old new
       → AreJudged (Err fault)
   judged_err fault is told = elim told as (λ _. AreJudged (Err fault)) [
     | inl failed ↦ absurd (failed.0 is)
@@ -99,7 +99,8 @@ pub read_onward : (v : Version) (old mid last : State) (versions : List RawVersi
     → (HasVersion old.now.schema → IsDatabase old.now)
     → (HasVersion old.now.schema → AreVersions old.now.trees versions) → last.now ≡ mid.now
     → AreFirst v mid.now first → AreCardsIn v last.now olders rows.cards
-    → AreOnward v (first_rows (named_in versions first) olders rows.cards) last.now rows → IsFullIn v old.now → AreRead v old.now olders rows
+    → AreOnward v (first_rows (named_in versions first) olders rows.cards) last.now rows
+    → IsFullIn v old.now → AreRead v old.now olders rows
 read_onward v old mid last versions first olders rows same sound are now firsts cards onward ours =
     are_read v old mid versions olders rows onward.versions same sound are
     (λ has. all_of v mid.now first olders versions rows firsts

@@ -9,7 +9,7 @@ use Rattle.vault_verdict.specs.Faults.{IsJudged}
 use Rattle.vault_tables.specs.RightTexts.{right_values}
 use Rattle.vault_tables.specs.RecordTexts.{record_values}
 use Rattle.vault_verdict.specs.ReadAs.{replaced_in, rights_in}
-use Rattle.sql_tables.specs.Reading.{AreTable, IsAny}
+use Rattle.sql_tables.specs.Reading.{AreTable, InSchema, IsAny}
 use Rattle.vault_verdict.specs.ReadAs.{AreRightsFull}
 use Rattle.vault_verdict.specs.Reading.{AreCardsIn, AreEntriesIn, IsUnreadOne}
 use Rattle.vault_verdict.specs.Sizes.{counts_of}
@@ -27,6 +27,7 @@ use Rattle.vault_rules.specs.declared.rows.RawVersion.{RawVersion}
 use Rattle.vault_rules.specs.declared.rows.RawMerchant.{RawMerchant}
 use Rattle.vault_rules.specs.declared.rows.RawCount.{RawCount}
 use Rattle.vault_rules.specs.declared.rows.RawCard.{RawCard}
+use Rattle.vault_schema.specs.Versions.{schema_of}
 use Rattle.vault_schema.specs.declared.version.Version.{Version}
 
 -- the sizes of rows that keep each rule, and of which no rowid comes twice; or why there are none
@@ -89,17 +90,24 @@ module _ {S : Type 0} (g : Ghosts S) (v : Version) where
       IsErrAnd result (λ e. (IsJudged e → ⊥) × (e ≡ Store → IsUnreadOne g v (state g old).now new))
 
   -- the rows behind the cards aren't read; or nothing changed, and this is what all come to
-  abbrev pub Judges : FirstRows → Result Sizes OpenFault → Held S → Held S → Type 0
-  Judges first result old new =
+  abbrev pub ComeTo : FirstRows → Result Sizes OpenFault → Held S → Held S → Type 0
+  ComeTo first result old new =
       IsUnjudged result old new
       ⊎ (IsUnchanged (state g old) (state g new) × (rows : Rows) × AreOnward v first (state g old).now rows
       × IsVerdictOf rows result)
 
   -- so it is of the rows behind the counts, with the entries of schema 1
-  abbrev pub JudgesAll : NamedRows → Result Judged OpenFault → Held S → Held S → Type 0
-  JudgesAll named result old new =
+  abbrev pub AllComeTo : NamedRows → Result Judged OpenFault → Held S → Held S → Type 0
+  AllComeTo named result old new =
       IsUnjudged result old new
       ⊎ (IsUnchanged (state g old) (state g new) × (olders : List OldEntry) × (rows : Rows)
       × AreCardsIn v (state g old).now olders rows.cards
       × AreOnward v (first_rows named olders rows.cards) (state g old).now rows
       × IsVerdictOf rows (sizes_in result) × IfOk result (λ it. it.olders.items ≡ olders))
+
+  -- in the version's schema, on an honest disk, this is what the rows come to
+  abbrev pub Judges : FirstRows → Result Sizes OpenFault → Held S → Held S → Type 0
+  Judges first result old new = InSchema g (schema_of v) old new (λ _. ComeTo first result old new)
+
+  abbrev pub JudgesAll : NamedRows → Result Judged OpenFault → Held S → Held S → Type 0
+  JudgesAll named result old new = InSchema g (schema_of v) old new (λ _. AllComeTo named result old new)

@@ -109,6 +109,10 @@ StandsSound db = StandsSoundIn newest db
 abbrev pub IsSoundOf : Database → Sizes → Type 0
 IsSoundOf db sizes = IsSoundIn newest db sizes
 
+-- these are the sizes of the vault there: the empty one, where there is no table
+abbrev pub HasSizes : Database → Sizes → Type 0
+HasSizes db sizes = (db.schema ≡ no_schema) × (sizes ≡ sizes_of empty_vault) ⊎ IsSoundOf db sizes
+
 -- the connection holds a sound vault
 pub record HoldsSound (s : State) : Type 0 where
   pub vault : Vault

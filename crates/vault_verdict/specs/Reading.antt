@@ -46,6 +46,7 @@ use Rattle.vault_tables.specs.MerchantTexts.{merchant_values}
 use Rattle.vault_tables.specs.RightTexts.{right_values}
 use Rattle.vault_schema.specs.Stands.{newest}
 use Rattle.vault_schema.specs.Layers.{Either}
+use Rattle.vault_schema.specs.Versioned.{HasVersion}
 use Rattle.vault_schema.specs.Versions.{has_cards, schema_of}
 use Rattle.vault_schema.specs.declared.version.Version.{Version}
 use Rattle.vault_schema.specs.Schema.{newest_schema}
@@ -76,6 +77,10 @@ ArePointingFull db = AreLonger 7 (db.trees 14)
 -- what was read of the cards
 abbrev pub AreCardTable : Database → List RawCard → Type 0
 AreCardTable db raws = AreTable IsAny (λ t. t 12) card_row (λ c. c.id) db raws
+
+-- the cards were taken, each as it was read
+abbrev pub TakesCards : Database → Index → WithCards → Type 0
+TakesCards db start it = (raws : List RawCard) × CardsTaken start it.index raws × AreCardTable db raws
 
 -- what was read of the entries of schema 1, and the cards of them
 pub record AreOldCards (db : Database) (olders : List OldEntry) (cards : List RawCard) : Type 0 where
@@ -126,6 +131,11 @@ pub record AreBehind (v : Version) (db : Database) (olders : List OldEntry) (ind
   pub replaced : it.replaced ≡ replaced_in v db.trees
 
 module _ {S : Type 0} (g : Ghosts S) where
+  -- of a database whose schema has a version, on an honest disk, this is so
+  abbrev pub InVersioned : Held S → Held S → (Database → Type 0) → Type 0
+  InVersioned old new Says =
+      HasCleanDisk (state g new) → HasVersion (state g old).now.schema → Says (state g old).now
+
   -- why the rows of `vault` aren't read, though memory is there
   abbrev pub AreVersionsUnread : Database → Held S → Type 0
   AreVersionsUnread db new = IsUnread g READ_VERSIONS.now version_values db new

@@ -1,13 +1,10 @@
 //! The whole check of a file.
-ghost use Rattle.std.specs.Prelude.{◌≡◌, ◌⊎◌, IfOk};
+ghost use Rattle.std.specs.Prelude.{◌≡◌, IfOk};
 ghost use Rattle.sqlite.specs.Held.{state};
 ghost use Rattle.sqlite.specs.State.{HasCleanDisk};
 ghost use Rattle.sql_tables.specs.Transactions.{Between};
-ghost use Rattle.vault_core.specs.Vault.{empty_vault};
-ghost use Rattle.vault_verdict.specs.Opened.{IsSoundOf};
+ghost use Rattle.vault_verdict.specs.Opened.{HasSizes};
 ghost use Rattle.vault_verdict.specs.Reading.{IsFull};
-ghost use Rattle.vault_verdict.specs.Sizes.{sizes_of};
-ghost use Rattle.sql_tables.specs.Schema.{no_schema};
 ghost use Rattle.vault_schema.specs.Versions.{newest};
 ghost use Rattle.vault_verdict.specs.Refusals.{IsStillVersioned, IsUntouched, JudgesRows};
 ghost use Rattle.vault_verdict.specs.Refusals.{LeavesVersionSeen, RefusesForeign, TellsUnread};
@@ -35,8 +32,7 @@ pub fn check<S: Alter>(alloc: Global, conn: &mut Connection<S>) -> Result<Sizes,
     // with Ok, on an honest disk, if the rows are full, these are the sizes of the sound vault there or the
     // empty one
     ensures sound { Between S.Store conn.old conn.new (λ old new. HasCleanDisk new
-        → IfOk result (λ sizes. IsFull old.now
-        → (old.now.schema ≡ no_schema) × (sizes ≡ sizes_of empty_vault) ⊎ IsSoundOf old.now sizes)) }
+        → IfOk result (λ sizes. IsFull old.now → HasSizes old.now sizes)) }
     // on an honest disk, 31, 30 and neither are told of the rows
     ensures rows { JudgesRows S.Store conn.old conn.new result }
     // on an honest disk, 33 comes to a vault's tables with full rows only where one isn't read or a rowid

@@ -2,7 +2,6 @@
 ghost use Rattle.std.specs.Prelude.{◌≡◌, [], IfOk};
 ghost use Rattle.sqlite.specs.Held.{state};
 ghost use Rattle.sqlite.specs.State.{HasCleanDisk};
-ghost use Rattle.sql_tables.specs.Reading.{InSchema};
 ghost use Rattle.vault_verdict.specs.Refusals.{IsBrokenWhereFull, IsOtherIn, IsStill, IsUntouched};
 ghost use Rattle.vault_verdict.specs.Refusals.{LeavesSeen, RowsBreak, TellsNoVersion, TellsOther};
 ghost use Rattle.vault_verdict.specs.Refusals.{TellsUnread, TellsUnreadIn};
@@ -47,9 +46,8 @@ fn judge_behind<'a, S: Alter>(
 ) -> Result<Sizes, OpenFault>
     // in the version's schema, on an honest disk, rows that weren't read aren't judged, and of all others
     // this is the verdict
-    ensures told { InSchema S.Store (schema_of version) conn.old conn.new (λ _. WhereCards index.entry (λ cards.
-        Judges S.Store version (first_rows (named_rows versions.now index.entry) olders.now cards) result
-        conn.old conn.new)) }
+    ensures told { WhereCards index.entry (λ cards. Judges S.Store version
+        (first_rows (named_rows versions.now index.entry) olders.now cards) result conn.old conn.new) }
     ensures versioned { TellsNoVersion result }
     // in the version's schema, on an honest disk, a crash leaves nothing new; no doubt goes away, and no
     // transaction begins
@@ -69,9 +67,8 @@ fn judge_cards<'a, S: Alter>(
 ) -> Result<Judged, OpenFault>
     // in the version's schema, on an honest disk, rows that weren't read aren't judged, and of all others
     // this is the verdict
-    ensures told { InSchema S.Store (schema_of version) conn.old conn.new (λ _.
-        HoldCards index.entry.merchants.now index.entry.cards []
-        → JudgesAll S.Store version (named_rows versions.now index.entry) result conn.old conn.new) }
+    ensures told { HoldCards index.entry.merchants.now index.entry.cards []
+        → JudgesAll S.Store version (named_rows versions.now index.entry) result conn.old conn.new }
     ensures versioned { TellsNoVersion result }
     // in the version's schema, on an honest disk, a crash leaves nothing new; no doubt goes away, and no
     // transaction begins
@@ -92,8 +89,7 @@ fn judge_first<S: Alter>(
 ) -> Result<Judged, OpenFault>
     // in the version's schema, on an honest disk, rows that weren't read aren't judged, and of all others
     // this is the verdict
-    ensures told { InSchema S.Store (schema_of version) conn.old conn.new (λ _.
-        JudgesAll S.Store version (named_in versions.now first.now) result conn.old conn.new) }
+    ensures told { JudgesAll S.Store version (named_in versions.now first.now) result conn.old conn.new }
     ensures versioned { TellsNoVersion result }
     // in the version's schema, on an honest disk, a crash leaves nothing new; no doubt goes away, and no
     // transaction begins

@@ -3,7 +3,7 @@
 ghost use Rattle.std.specs.Prelude.{◌≡◌, ◌≤◌, ◌⊎◌, List, IfErr, IfOk, OnOk, cond};
 ghost use Rattle.sqlite.specs.Effect.{IsDatabase};
 ghost use Rattle.sqlite.specs.Held.{state};
-ghost use Rattle.sqlite.specs.State.{HasCleanDisk, IsUnchanged};
+ghost use Rattle.sqlite.specs.State.{IsUnchanged};
 ghost use Rattle.sqlite.specs.Table.{Table};
 ghost use Rattle.sqlite_schema.specs.declared.schema.Index.{Index as SqlIndex};
 ghost use Rattle.sql_tables.specs.Schema.{grown};
@@ -16,7 +16,6 @@ ghost use Rattle.vault_rules.specs.declared.rows.RawEntry.{RawEntry as EntryRow}
 ghost use Rattle.vault_schema.specs.Layers.{is_from};
 ghost use Rattle.vault_schema.specs.Schemas.{v1};
 ghost use Rattle.vault_schema.specs.Schemas.{v2};
-ghost use Rattle.vault_schema.specs.Versioned.{HasVersion};
 ghost use Rattle.vault_schema.specs.Versions.{schema_of};
 ghost use Rattle.vault_tables.specs.declared.entries.old.TheConstants.{READ_OLD_ENTRIES};
 ghost use Rattle.vault_verdict.specs.Opened.{AreVersions};
@@ -26,8 +25,8 @@ ghost use Rattle.vault_tables.specs.RecordTexts.{record_scan};
 ghost use Rattle.vault_verdict.specs.ReadAs.{IsUnreadReplaced, merchants_look, rights_look};
 ghost use Rattle.vault_verdict.specs.ReadAs.{left_in as left_spec, replaced_in};
 ghost use Rattle.vault_verdict.specs.ReadIn.{RefusesIn};
-ghost use Rattle.vault_verdict.specs.Reading.{AreCardTable, AreEntriesIn, AreOldCards, AreVersionsUnread};
-ghost use Rattle.vault_verdict.specs.Reading.{IsUnreadCards, IsUnreadEntries, ReadsCards};
+ghost use Rattle.vault_verdict.specs.Reading.{AreEntriesIn, AreOldCards, AreVersionsUnread, InVersioned};
+ghost use Rattle.vault_verdict.specs.Reading.{IsUnreadCards, IsUnreadEntries, ReadsCards, TakesCards};
 ghost use Rattle.vault_tables.specs.Taken.{CardsTaken, EntriesTaken, RecordsTaken};
 
 use crate::made;
@@ -59,19 +58,17 @@ pub fn version_rows<S: Alter>(
     conn: &mut Connection<S>,
 ) -> Result<Vec<RawVersion>, StoreFault>
     // where the schema has a version, on an honest disk, Ok gives the rows of `vault`, in some order
-    ensures told { HasCleanDisk (state S.Store conn.new) → HasVersion (state S.Store conn.old).now.schema
-        → IfOk result (λ raws. AreVersions (state S.Store conn.old).now.trees raws.items) }
+    ensures told { InVersioned S.Store conn.old conn.new
+        (λ db. IfOk result (λ raws. AreVersions db.trees raws.items)) }
     // where the schema has a version, on an honest disk, Ok means that the database is sound
-    ensures live { HasCleanDisk (state S.Store conn.new) → HasVersion (state S.Store conn.old).now.schema
-        → OnOk result (IsDatabase (state S.Store conn.old).now) }
+    ensures live { InVersioned S.Store conn.old conn.new (λ db. OnOk result (IsDatabase db)) }
     // where the schema has a version, on an honest disk, nothing changed with Ok
-    ensures kept { HasCleanDisk (state S.Store conn.new) → HasVersion (state S.Store conn.old).now.schema
-        → OnOk result (IsUnchanged (state S.Store conn.old) (state S.Store conn.new)) }
+    ensures kept { InVersioned S.Store conn.old conn.new
+        (λ _. OnOk result (IsUnchanged (state S.Store conn.old) (state S.Store conn.new))) }
     // where the schema has a version, on an honest disk, Store comes only where the rows of `vault` aren't
     // read
-    ensures refused { HasCleanDisk (state S.Store conn.new) → HasVersion (state S.Store conn.old).now.schema
-        → IfErr result (λ e. e ≡ StoreFault.Store
-        → AreVersionsUnread S.Store (state S.Store conn.old).now conn.new) }
+    ensures refused { InVersioned S.Store conn.old conn.new
+        (λ db. IfErr result (λ e. e ≡ StoreFault.Store → AreVersionsUnread S.Store db conn.new)) }
     // in a schema with a version, on an honest disk, a crash leaves nothing new; no doubt goes away, and no
     // transaction begins
     ensures nothing_new { IsStillVersioned S.Store conn.old conn.new }
@@ -179,9 +176,8 @@ fn later_cards<'a, S: Alter>(
     ensures reads { (others : List Table) (indexes : List SqlIndex) → Reads (grown v2 others indexes) result
         (state S.Store conn.old) (state S.Store conn.new) }
     // in schema 2 or one grown from it, on an honest disk, Ok has taken the cards
-    ensures told { (ts : List Table) (is : List SqlIndex) → InSchema S.Store (grown v2 ts is) conn.old conn.new
-        (λ db. IfOk result (λ it. (raws : List CardRow) × CardsTaken start.entry it.index raws
-        × AreCardTable db raws)) }
+    ensures told { (others : List Table) (indexes : List SqlIndex) → InSchema S.Store
+        (grown v2 others indexes) conn.old conn.new (λ db. IfOk result (TakesCards db start.entry)) }
     // in schema 2 or one grown from it, on an honest disk, Store comes only where cards or entries aren't
     // read
     ensures refused { (others : List Table) (indexes : List SqlIndex) → RefusesIn S.Store
@@ -222,8 +218,9 @@ pub(crate) fn entries<'a, S: Alter>(
     ensures reads { Reads (schema_of version) result (state S.Store conn.old) (state S.Store conn.new)
         ⊎ (conn.new ≡ conn.old) }
     // in the version's schema, on an honest disk, Ok has taken its entries
-    ensures told { InSchema S.Store (schema_of version) conn.old conn.new (λ db. IfOk result (λ it.
-        (raws : List EntryRow) × EntriesTaken start.entry it raws × AreEntriesIn version db olders.now raws)) }
+    ensures told { InSchema S.Store (schema_of version) conn.old conn.new (λ db. IfOk result
+        (λ it. (raws : List EntryRow) × EntriesTaken start.entry it raws
+        × AreEntriesIn version db olders.now raws)) }
     // in the version's schema, on an honest disk, Store comes only where its entries or its cards aren't read
     ensures refused { RefusesIn S.Store (schema_of version) conn.old conn.new result
         (IsUnreadEntries S.Store version) }

@@ -47,7 +47,8 @@ returns-clause-done g c clean =
     let late = subst (λ h. HasCleanDisk (state g.S.Store h)) (sym (left_is g c)) clean in
     let old = state g.S.Store c.args.conn.now in
     subst (λ h. OnOk c.map_err.result
-    ((V : Vault) → IsFitFor c.args.ch.now c.args.known.now old V → Holds (state g.S.Store h) (plus V c.args.ch.now))) (left_is g c)
+    ((V : Vault) → IsFitFor c.args.ch.now c.args.known.now old V
+    → Holds (state g.S.Store h) (plus V c.args.ch.now))) (left_is g c)
     (as_ok _ c.commit.result c.map_err.result c.map_err.ensures.variant
     (on_ok c.commit.result (c.commit.ensures.ok late) (λ done V fit.
     held_after (plus V c.args.ch.now) (ready g c late V fit) done.1
@@ -62,7 +63,8 @@ returns-clause-crash g c clean V fit =
     omega (arith, c.commit.ensures.survives.clean) in
     subst (λ x. LeavesEither (state g.S.Store x) V (plus V c.args.ch.now)) (left_is g c) (λ db left.
     elim (c.commit.ensures.survives.crash late db left) [
-      | inl before ↦ inl (last_commit old V db fit.held (g.met.S.Store.settled c.args.conn.now.store db fit.held.is_open
+      | inl before ↦ inl (last_commit old V db fit.held
+          (g.met.S.Store.settled c.args.conn.now.store db fit.held.is_open
           (rw c.transaction-tx.ensures.begun at (both.left middle db before))))
       | inr wrote ↦ inr (ours (plus V c.args.ch.now) (ready g c late V fit) db wrote)
     ])

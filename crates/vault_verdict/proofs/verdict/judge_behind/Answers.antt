@@ -5,12 +5,12 @@ use Rattle.vault_rules.specs.AllRows.{Rows}
 use Rattle.vault_rules.specs.declared.index.Index.{Index}
 
 pub returns-in_err-behind-clause-told : goal.returns-in_err-behind-clause-told
-returns-in_err-behind-clause-told g c clean has cards held =
+returns-in_err-behind-clause-told g c cards held clean has =
     inl (failed_read c.from_residual.result _ c.from_residual.ensures.1
     (c.in_err-behind.ensures.refused clean has))
 
 pub returns-clause-told : goal.returns-clause-told
-returns-clause-told g c clean has cards held =
+returns-clause-told g c cards held clean has =
     let are = c.in_ok-behind.ensures.told clean has in
     let behind = c.in_ok-behind.behind in
     let index = c.args.index in

@@ -1,5 +1,5 @@
 use Rattle.std.proofs.Common.{◌∙◌, [], inl, subst, sym}
-use Rattle.vault_verdict.specs.Judging.{JudgesAll}
+use Rattle.vault_verdict.specs.Judging.{AllComeTo}
 use Rattle.vault_verdict.proofs.Results.{failed_memory}
 use Rattle.vault_verdict.proofs.verdict.judge_first.Goals as goal
 use Rattle.vault_rules.specs.HeldRows.{HoldCards}
@@ -13,9 +13,9 @@ returns-clause-told g c clean has =
     let index = c.in_ok-index.index in
     let merchants = c.in_ok-index.ensures.merchants ∙ c.deref.ensures.value in
     let counts = c.in_ok-index.ensures.counts ∙ c.deref-2.ensures.value in
-    subst (λ x. JudgesAll g.S.Store c.args.version x c.judge_cards.result c.args.conn.now
+    subst (λ x. AllComeTo g.S.Store c.args.version x c.judge_cards.result c.args.conn.now
     c.judge_cards.new.conn)
     (λ i. record { versions = c.args.versions.now; merchants = merchants i; counts = counts i })
-    (c.judge_cards.ensures.told clean has
+    (c.judge_cards.ensures.told
     (subst (λ m. HoldCards m index.cards []) (sym c.in_ok-index.ensures.merchants)
-    c.in_ok-index.ensures.cards))
+    c.in_ok-index.ensures.cards) clean has)

@@ -11,7 +11,7 @@ use Rattle.vault_verdict.proofs.FirstAndBehind.{AreJudged, judged_err, judged_ok
 use Rattle.vault_verdict.proofs.Results.{err_where, ok_where, on_where, passed_on}
 use Rattle.vault_verdict.proofs.verdict.verdict.Given.{Over}
 use Rattle.vault_verdict.proofs.verdict.verdict.Goals as goal
-use Rattle.vault_verdict.specs.Judging.{AreOnward, JudgesAll, NamedRows, first_rows, named_in}
+use Rattle.vault_verdict.specs.Judging.{AreOnward, AllComeTo, NamedRows, first_rows, named_in}
 use Rattle.vault_verdict.specs.Opened.{AreOldersIn, IsSoundIn}
 use Rattle.vault_verdict.specs.ReadAs.{IsFullIn}
 use Rattle.vault_verdict.specs.Reading.{AreCardsIn, IsUnreadIn, IsUnreadOne}
@@ -29,7 +29,7 @@ module _ (g : Over) (c : goal.After-drop-versions-2 g)
 
   abbrev Comes : Result Judged OpenFault → Type 0
   Comes result =
-      JudgesAll g.S.Store c.args.version named result c.read_first.new.conn c.judge_first.new.conn
+      AllComeTo g.S.Store c.args.version named result c.read_first.new.conn c.judge_first.new.conn
 
   middle : HasCleanDisk (state g.S.Store c.read_first.new.conn)
   middle = omega (arith, c.judge_first.ensures.nothing_new.clean, clean)
@@ -49,7 +49,7 @@ module _ (g : Over) (c : goal.After-drop-versions-2 g)
     -- what all rows come to
     came : Comes c.judge_first.result
     came =
-        subst (λ versions. JudgesAll g.S.Store c.args.version (named_in versions c.in_ok-first.first)
+        subst (λ versions. AllComeTo g.S.Store c.args.version (named_in versions c.in_ok-first.first)
         c.judge_first.result c.read_first.new.conn c.judge_first.new.conn) c.deref-2.ensures.value
         (c.judge_first.ensures.told clean (ap (λ (d : Database). d.schema) next ∙ there))
 
@@ -58,7 +58,8 @@ module _ (g : Over) (c : goal.After-drop-versions-2 g)
       → (state g.S.Store c.args.conn.now).now.schema ≡ schema_of c.args.version
       → AreJudged g.S.Store c.args.version named c.read_first.new.conn c.judge_first.new.conn (Ok result)
   judged result is schema =
-      judged_ok g.S.Store c.args.version named c.read_first.new.conn c.judge_first.new.conn result (subst Comes is (came schema))
+      judged_ok g.S.Store c.args.version named c.read_first.new.conn c.judge_first.new.conn result
+      (subst Comes is (came schema))
 
   -- they are those of the file
   read_of : IsFullIn c.args.version (state g.S.Store c.args.conn.now).now → (olders : List OldEntry)
@@ -111,8 +112,8 @@ pub returns-clause-damaged : goal.returns-clause-damaged
 returns-clause-damaged g c clean = err_where c.judge_first.result (λ fault is rule broken ours.
     let v = c.args.version in
     let judged = subst IsJudged (sym broken) tt in
-    let it = judged_err g.S.Store v (named g c clean) c.read_first.new.conn c.judge_first.new.conn fault judged
-    (subst (Comes g c clean) is (came g c clean ours.schema)) in
+    let it = judged_err g.S.Store v (named g c clean) c.read_first.new.conn c.judge_first.new.conn fault
+    judged (subst (Comes g c clean) is (came g c clean ours.schema)) in
     let rows = it.2 in
     let read = read_of g c clean ours it.1 rows it.3 it.4 in
     record {
@@ -129,8 +130,8 @@ returns-clause-unchanged g c clean = err_where c.judge_first.result (λ fault is
     let v = c.args.version in
     let one = c.in_ok-versions.ensures.kept (early g c clean) (has_version_in v _ schema) in
     let two = c.in_ok-first.ensures.reads.kept (middle g c clean) (there g c clean schema) in
-    let it = judged_err g.S.Store v (named g c clean) c.read_first.new.conn c.judge_first.new.conn fault judged
-    (subst (Comes g c clean) is (came g c clean schema)) in
+    let it = judged_err g.S.Store v (named g c clean) c.read_first.new.conn c.judge_first.new.conn fault
+    judged (subst (Comes g c clean) is (came g c clean schema)) in
     unchanged_then _ _ _ (unchanged_then _ _ _ one two) it.0)
 
 pub returns-in_err-versions-clause-unread : goal.returns-in_err-versions-clause-unread

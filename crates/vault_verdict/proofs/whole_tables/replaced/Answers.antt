@@ -123,6 +123,7 @@ returns-clause-told g c clean has =
     let merchants = from_start (λ db. c.in_ok-merchants.merchants ≡ any_left (db.trees 1)) first.reads early
     there (λ same. second.told middle same) in
     let rights = from_start (λ db. c.in_ok-rights.rights ≡ any_left (db.trees 10))
-    (both g (goal.at.returns-clause-told g c).After-any_left-3) middle there (λ same. third.told clean same) in
+    (both g (goal.at.returns-clause-told g c).After-any_left-3) middle there
+    (λ same. third.told clean same) in
     c.left_in.ensures ∙ (λ i. left_in v (entries i) (merchants i) (rights i))
     ∙ left_is v (state g.S.Store c.args.conn.now).now.trees
