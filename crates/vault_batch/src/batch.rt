@@ -72,10 +72,12 @@ fn answer_rows<R: Read, W: Write, T: Tables, S: Source>(
 ) -> Result<Counts, BatchFault>
     // Ok counts the input's rows, where it is known; on an honest disk, all are answered and the vault after
     // them is kept
-    ensures batched { IfOk result (IsBatched (R.remaining (inner_of reader.old)) (passing T.Tables S.given W.contents
+    ensures batched { IfOk result (IsBatched (R.remaining (inner_of reader.old))
+        (passing T.Tables S.given W.contents
         (vault.old, source.old, writer.old) (vault.new, source.new, writer.new)) asker.now) }
     // the fault says at which row it stopped, and what went out and is kept then
-    ensures stopped { IfErr result (Stops (R.remaining (inner_of reader.old)) (passing T.Tables S.given W.contents
+    ensures stopped { IfErr result (Stops (R.remaining (inner_of reader.old))
+        (passing T.Tables S.given W.contents
         (vault.old, source.old, writer.old) (vault.new, source.new, writer.new)) asker.now) }
     // Source, Write and Store tell that this one has failed; whether the others have stays as it was
     ensures own_failure { Tells result
@@ -156,14 +158,16 @@ pub fn batch<R: Read, W: Write, T: Tables, S: Source>(
 ) -> Result<Counts, BatchFault>
     // Ok counts the input's rows, where it is known; on an honest disk, all are answered and the vault after
     // them is kept
-    ensures batched { IfOk result (IsBatchedFor R.remaining reader.old (caller, merchant) (passing T.Tables S.given W.contents
+    ensures batched { IfOk result (IsBatchedFor R.remaining reader.old (caller, merchant)
+        (passing T.Tables S.given W.contents
         (vault.old, source.old, writer.old) (vault.new, source.new, writer.new))) }
     // with Ok, no byte of the input is left, where it is known
     ensures end { OnOk result (IsAtEnd (R.remaining (inner_of reader.new))) }
     // with Ok, the reader hasn't failed
     ensures reader_ok { OnOk result (is_stopped reader.new ≡ false) }
     // the fault says at which row it stopped, and what went out and is kept then
-    ensures stopped { IfErr result (StopsFor R.remaining reader.old (caller, merchant) (passing T.Tables S.given W.contents
+    ensures stopped { IfErr result (StopsFor R.remaining reader.old (caller, merchant)
+        (passing T.Tables S.given W.contents
         (vault.old, source.old, writer.old) (vault.new, source.new, writer.new))) }
     // with Read the reader has failed
     ensures read { result ≡ Err BatchFault.Read → is_stopped reader.new ≡ true }

@@ -36,7 +36,7 @@ use Rattle.vault_jobs.specs.Causes.{IsCauseOf}
 use Rattle.vault_changes.specs.Grants.{AreDone, CarriesAll, grants_at}
 use Rattle.vault_jobs.specs.Notes.{IsNoted, withdrawn_by}
 use Rattle.vault_jobs.specs.Outcomes.{ComesTo, no_outcome}
-use Rattle.vault_jobs.specs.Outside.{Outside}
+use Rattle.vault_jobs.specs.Outside.{Outside, outside}
 use Rattle.vault_jobs.specs.Piped.{IsPiped, StopsPiping}
 use Rattle.vault_jobs.specs.Streams.{Known, Output, Seen, Streams, output_in, output_of}
 use Rattle.vault_jobs.specs.Streams.{seen_over, seen_with}
@@ -267,11 +267,11 @@ pub record Does (at : Outside) (task : Task) (w : Passage) (result : Result Outc
   pub caused : IfErr result (λ stop. IsCauseOf stop v.streams)
   pub breaks : BreaksBy task result w.broken
 
--- What a task does, by the network, the vault, the input and the output before it and after it: in turns of
--- which the network tells.
+-- What a task does, by the network, the vault, the input and the output before it and after it, in turns of
+-- which the network tells. It is told these moments, and files have these texts at these looks.
 abbrev pub TaskDone : {N T R W : Type 0} → (N → List Event → Type 0) × Ghosts T × (R → Known) × (W → Known)
-    → N × Holder T × Watched R × Watched W → N × Holder T × Watched R × Watched W → Outside → Task
-    → Result Outcome Stop × Option Note → Type 0
+    → N × Holder T × Watched R × Watched W → N × Holder T × Watched R × Watched W
+    → Turns × (List ℕ → Looks) → Task → Result Outcome Stop × Option Note → Type 0
 TaskDone over old new at task ended = SomeTurns over.0 old.0 new.0
-    (λ turns. Does at task (passage over.1 old.1 new.1) ended.0 ended.1
+    (λ turns. Does (outside at.0 at.1) task (passage over.1 old.1 new.1) ended.0 ended.1
     (seen_with (seen_over over.2 old.2 new.2 over.3 old.3 new.3) turns))

@@ -35,7 +35,8 @@ pub fn batch_input<R: Read, W: Write, T: Tables, S: Source>(
 ) -> Result<Counts, BatchFault>
     // Ok counts the input's rows, where it is known; on an honest disk, all are answered and the vault after
     // them is kept
-    ensures batched { IfOk result (IsBatched (R.remaining (inner_of input.old)) (passing T.Tables S.given W.contents
+    ensures batched { IfOk result (IsBatched (R.remaining (inner_of input.old))
+        (passing T.Tables S.given W.contents
         (vault.old, source.old, output.old) (vault.new, source.new, output.new)) asker) }
     // with Ok, no byte of the input is left, where it is known
     ensures end { OnOk result (IsAtEnd (R.remaining (inner_of input.new))) }
@@ -43,7 +44,8 @@ pub fn batch_input<R: Read, W: Write, T: Tables, S: Source>(
     ensures unfailed { GoesOn result input.new × GoesOn result output.new }
     // the fault says at which row it stopped, and what went out and is kept; or all are answered, and it is
     // Write
-    ensures stopped { IfErr result (StopsBatch (R.remaining (inner_of input.old)) (passing T.Tables S.given W.contents
+    ensures stopped { IfErr result (StopsBatch (R.remaining (inner_of input.old))
+        (passing T.Tables S.given W.contents
         (vault.old, source.old, output.old) (vault.new, source.new, output.new)) asker) }
     // with Read the reader has failed
     ensures read { result ≡ Err BatchFault.Read → is_stopped input.new ≡ true }

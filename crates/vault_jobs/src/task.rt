@@ -3,7 +3,6 @@ ghost use Rattle.std.specs.Prelude.{◌≡◌, All, IfErr, false, length};
 ghost use Rattle.vault_store.specs.Applied.{is_broken};
 ghost use Rattle.vault_engine.specs.Passing.{passage};
 ghost use Rattle.vault_jobs.specs.Causes.{IsCauseOf};
-ghost use Rattle.vault_jobs.specs.Outside.{outside};
 ghost use Rattle.vault_jobs.specs.Streams.{output_of, seen_over, streams};
 ghost use Rattle.vault_jobs.specs.Doing.{BatchEnds, CommandsEnd, PipeEnds};
 ghost use Rattle.vault_jobs.specs.Doing.{SetEnds, SettleEnds, ShowEnds, TaskDone};
@@ -294,7 +293,7 @@ pub fn do_task<K: Timekeeper, N: Network, D: Desk, R: Read, W: Write, T: Tables>
     // network tells of
     ensures does { TaskDone (N.tells, T.Tables, R.remaining, W.contents)
         (network.old, vault.old, input.old, output.old) (network.new, vault.new, input.new, output.new)
-        (outside (K.tells time.now) (D.says desk.now)) task.now result }
+        (K.tells time.now, D.says desk.now) task.now result }
     ensures disk_honest { WasHonest T.Tables vault.old vault.new }
 {
     match *task {
