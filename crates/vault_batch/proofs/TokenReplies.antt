@@ -86,7 +86,7 @@ with_shows V n r f (inr q) = refusal_shows V n r q.1
 
 request : Asker → Row → Pair → Use → TokenRequest
 request who row pair u =
-    token_request who.caller who.merchant (digits_value 10 row.request) u (digits_of row.number) pair.1 pair.0
+    token_request who.caller who.merchant (digits_value 10 row.request) u (digits_of row.number) pair
 
 asked_shows : (V : Content) (a : TokenRequest) (r : Wanted) → r ≡ Ok (command_of a)
     → HasCells (reply_to V r)

@@ -12,6 +12,8 @@ use Rattle.vault_batch.specs.declared.row_counts.Counts.{Counts}
 use Rattle.vault_batch.specs.declared.fault.BatchFault.{BatchFault}
 use Rattle.vault_batch.specs.declared.fault.BatchFault.TheVariants as fault
 use Rattle.vault_batch.specs.declared.asker.Asker.{Asker}
+use Rattle.vault_wire.specs.Watching.{inner_of}
+use Rattle.vault_wire.specs.declared.watched.Watched.{Watched}
 
 -- bytes as a reader has them left
 abbrev Left : Type 0
@@ -78,3 +80,15 @@ Stops left w who fault.BadRecord = StopsAtRecord left w who
 Stops left w who fault.Memory =
     StopsAtOnce w ⊎ StopsBefore left w who ⊎ StopsAt (SilentAt (rows_by who) first_line w) left
 Stops left w who fault.Source = StopsAtSource left w who
+
+-- a caller, and the merchant at which it asks for tokens
+abbrev pub asker_of : Bytes × Bytes → Asker
+asker_of who = record { caller = who.0; merchant = who.1 }
+
+-- what the reader underneath had left is answered to its end, as rows of this caller and merchant
+abbrev pub IsBatchedFor : {R : Type 0} → (R → Left) → Watched R → Bytes × Bytes → Passage → Counts → Type 0
+IsBatchedFor remaining reader who w counts = IsBatched (remaining (inner_of reader)) w (asker_of who) counts
+
+-- where a batch of what it had left stopped, by its fault
+abbrev pub StopsFor : {R : Type 0} → (R → Left) → Watched R → Bytes × Bytes → Passage → BatchFault → Type 0
+StopsFor remaining reader who w fault = Stops (remaining (inner_of reader)) w (asker_of who) fault

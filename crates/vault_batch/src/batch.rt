@@ -1,15 +1,14 @@
 //! The rows of a batch answered, each before the next one is read.
 ghost use Rattle.std.specs.Prelude.{◌≡◌, ◌⊎◌, [], true, false, Err, IfErr, IfOk, OnOk, Option};
 ghost use Rattle.std.specs.Io.KnownBytes.{IsAtEnd};
-ghost use Rattle.vault_engine.specs.Passing.{Passage, giving, passage, sending};
+ghost use Rattle.vault_engine.specs.Passing.{passing};
 ghost use Rattle.vault_engine.specs.Stops.{Trusts, failures, failures_unread};
 ghost use Rattle.vault_wire.specs.Watching.{inner_of, is_stopped};
 ghost use Rattle.vault_core.specs.Keys.{Bytes};
 ghost use Rattle.vault_batch.specs.Faults.{Tells};
 ghost use Rattle.vault_batch.specs.Header.{Begins, SendsFirst};
 ghost use Rattle.vault_batch.specs.ReadingRecords.{StandsAfter};
-ghost use Rattle.vault_batch.specs.Stops.{IsBatched, Stops};
-ghost use Rattle.vault_batch.specs.declared.asker.Asker.{Asker as Asking};
+ghost use Rattle.vault_batch.specs.Stops.{IsBatched, IsBatchedFor, Stops, StopsFor};
 
 use crate::asker::Asker;
 use crate::csv_records::{read_record, records_of};
@@ -73,13 +72,13 @@ fn answer_rows<R: Read, W: Write, T: Tables, S: Source>(
 ) -> Result<Counts, BatchFault>
     // Ok counts the input's rows, where it is known; on an honest disk, all are answered and the vault after
     // them is kept
-    ensures batched { let w : Passage = sending W.contents writer.old writer.new
-        (giving S.given source.old source.new (passage T.Tables vault.old vault.new)) in
-        IfOk result (IsBatched (R.remaining (inner_of reader.old)) w asker.now) }
+    ensures batched { IfOk result (IsBatched (R.remaining (inner_of reader.old))
+        (passing T.Tables S.given W.contents
+        (vault.old, source.old, writer.old) (vault.new, source.new, writer.new)) asker.now) }
     // the fault says at which row it stopped, and what went out and is kept then
-    ensures stopped { let w : Passage = sending W.contents writer.old writer.new
-        (giving S.given source.old source.new (passage T.Tables vault.old vault.new)) in
-        IfErr result (Stops (R.remaining (inner_of reader.old)) w asker.now) }
+    ensures stopped { IfErr result (Stops (R.remaining (inner_of reader.old))
+        (passing T.Tables S.given W.contents
+        (vault.old, source.old, writer.old) (vault.new, source.new, writer.new)) asker.now) }
     // Source, Write and Store tell that this one has failed; whether the others have stays as it was
     ensures own_failure { Tells result
         (failures_unread (S.has_refused source.old) writer.old vault.old)
@@ -159,19 +158,17 @@ pub fn batch<R: Read, W: Write, T: Tables, S: Source>(
 ) -> Result<Counts, BatchFault>
     // Ok counts the input's rows, where it is known; on an honest disk, all are answered and the vault after
     // them is kept
-    ensures batched { let w : Passage = sending W.contents writer.old writer.new
-        (giving S.given source.old source.new (passage T.Tables vault.old vault.new)) in
-        let who : Asking = record { caller = caller; merchant = merchant } in
-        IfOk result (IsBatched (R.remaining (inner_of reader.old)) w who) }
+    ensures batched { IfOk result (IsBatchedFor R.remaining reader.old (caller, merchant)
+        (passing T.Tables S.given W.contents
+        (vault.old, source.old, writer.old) (vault.new, source.new, writer.new))) }
     // with Ok, no byte of the input is left, where it is known
     ensures end { OnOk result (IsAtEnd (R.remaining (inner_of reader.new))) }
     // with Ok, the reader hasn't failed
     ensures reader_ok { OnOk result (is_stopped reader.new ≡ false) }
     // the fault says at which row it stopped, and what went out and is kept then
-    ensures stopped { let w : Passage = sending W.contents writer.old writer.new
-        (giving S.given source.old source.new (passage T.Tables vault.old vault.new)) in
-        let who : Asking = record { caller = caller; merchant = merchant } in
-        IfErr result (Stops (R.remaining (inner_of reader.old)) w who) }
+    ensures stopped { IfErr result (StopsFor R.remaining reader.old (caller, merchant)
+        (passing T.Tables S.given W.contents
+        (vault.old, source.old, writer.old) (vault.new, source.new, writer.new))) }
     // with Read the reader has failed
     ensures read { result ≡ Err BatchFault.Read → is_stopped reader.new ≡ true }
     // Source, Write and Store tell that this one has failed; whether the others have stays as it was

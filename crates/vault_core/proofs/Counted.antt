@@ -201,10 +201,10 @@ follows-token V m c t answer silent answering =
 pub follows : (V : Vault) (m : Bytes) (c : Command) → Follows c V m (outcome V c)
 follows V m (Grant caller q right until now) =
     by_option (Follows (Grant caller q right until now) V m) (merchant_at V q)
-    (granting V caller q right until now)
+    (granting V (caller, (q, right)) until now)
     (plain_refusal V no_merchant)
     (λ known is. keeps (Grant caller q right until now) V m
-    (granting V caller q right until now known) known _ is refl
+    (granting V (caller, (q, right)) until now known) known _ is refl
     refl refl refl refl)
     (λ _. calm (Grant caller q right until now) V m (Refused no_merchant) refl refl)
 follows V m (Withdraw caller q right now) =

@@ -63,7 +63,8 @@ module _ (m : Bytes) (V W : Vault) (agree : AgreeAt m V W) where
           (alike-row m None V W agree _ _) (alike-refused m None V W agree too_many_merchants)
 
   alike-grant : (caller : Bytes) (right : Right) (until : Option ℕ) (now : ℕ) (known : Merchant)
-      → Both (granting V caller m right until now known) (granting W caller m right until now known)
+      → Both (granting V (caller, (m, right)) until now known)
+      (granting W (caller, (m, right)) until now known)
   alike-grant caller right until now known = record {
     reply = refl;
     after = and_then (set_row m None V W (record known { moment = time_at known now }))
@@ -158,13 +159,13 @@ IsAlikeIn V W c = AgreeAt (merchant_of c) V W → AgreeForWriter c V W → HaveS
 -- each command, in two vaults
 pub alike : (V W : Vault) (c : Command) → IsAlikeIn V W c
 alike V W (Grant caller m right until now) agree records room =
-    alike-of_merchant m None V W agree (λ U. granting U caller m right until now)
+    alike-of_merchant m None V W agree (λ U. granting U (caller, (m, right)) until now)
     (alike-grant m V W agree caller right until now)
 alike V W (Withdraw caller m right now) agree records room =
     alike-of_merchant m None V W agree (λ U. withdrawal U caller m right now)
     (alike-withdraw m V W agree caller right now)
 alike V W (Tokenize caller m request usage pan digits now) agree records room =
-    alike-tokenize V W (token_request caller m request usage pan digits now) agree (records caller refl)
+    alike-tokenize V W (token_request caller m request usage pan (now, digits)) agree (records caller refl)
 alike V W (Detokenize caller m token now) agree records room =
     alike-on_token m None V W agree (token_command caller m token right.Detokenize now) refl
     (λ U. denial U m now) (λ U known entry. redemption U m now known)

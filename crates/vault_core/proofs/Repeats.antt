@@ -279,7 +279,7 @@ KeepsAfter V o = Keeps V o.after
 -- a command keeps records and entries
 pub keeps-after : (V : Vault) → Sound V → (c : Command) → Keeps V (after V c)
 keeps-after V s (Grant caller m right until now) =
-    by_option (KeepsAfter V) (merchant_at V m) (granting V caller m right until now)
+    by_option (KeepsAfter V) (merchant_at V m) (granting V (caller, (m, right)) until now)
     (plain_refusal V no_merchant)
     (λ known e. record {
       records = λ caller request r e. e;
@@ -292,7 +292,7 @@ keeps-after V s (Withdraw caller m right now) =
       entries = λ m t e' e. same-entry t e' (entry_at V m t) e;
     }) (λ _. keeps-refl V)
 keeps-after V s (Tokenize caller m request usage pan digits now) =
-    (faithful-tokenize V s (token_request caller m request usage pan digits now)).keeps
+    (faithful-tokenize V s (token_request caller m request usage pan (now, digits))).keeps
 keeps-after V s (Detokenize caller m token now) =
     by_redeem (KeepsAfter V) V (token_command caller m token right.Detokenize now) (keeps-refl V)
     (λ known reason _ _. by_test (KeepsAfter V) (known.denied == MOST_COUNT) (plain_refusal V full) _

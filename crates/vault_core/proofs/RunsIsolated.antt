@@ -38,7 +38,7 @@ Contains-later y xs x c = (suc c.0, omega (arith, c.1), c.2)
 as-request : (c : Command) (caller : Bytes) → writer_of c ≡ Some caller
     → (a : TokenRequest) × (command_of a ≡ c) × (a.caller ≡ caller) × (a.merchant ≡ merchant_of c)
 as-request (Tokenize c m request usage pan digits now) caller e =
-    (token_request c m request usage pan digits now, refl, some_same e, refl)
+    (token_request c m request usage pan (now, digits), refl, some_same e, refl)
 as-request c caller e = absurd (cc)
 
 fewer-room : (v w : ℕ) → w ≤ v → nat_lt v MOST_MERCHANTS ≡ true → nat_lt w MOST_MERCHANTS ≡ true

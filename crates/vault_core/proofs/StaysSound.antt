@@ -55,7 +55,8 @@ SoundAfter o = Sound o.after
 sound-grant : (V : Vault) → Sound V → (caller m : Bytes) (right : Right) (until : Option ℕ) (now : ℕ)
     → IsName caller → IfSome until IsMoment → IsMoment now → Sound (after V (Grant caller m right until now))
 sound-grant V s caller m right until now name end moment =
-    by_option SoundAfter (merchant_at V m) (granting V caller m right until now) (plain_refusal V no_merchant)
+    by_option SoundAfter (merchant_at V m) (granting V (caller, (m, right)) until now)
+    (plain_refusal V no_merchant)
     (λ known e. sound-right (moved_vault V m known now) (sound-moved V s m known now e moment) caller m right
     (record { ends = until }) (record known { moment = time_at known now }) name end
     (get-insert_same bytes_total bytes_exact V.merchants m _))
@@ -249,7 +250,7 @@ pub sound-after : (V : Vault) → Sound V → (c : Command) → IsProper c → S
 sound-after V s (Grant caller m right until now) p = sound-grant V s caller m right until now p.0 p.2 p.3
 sound-after V s (Withdraw caller m right now) p = sound-withdraw V s caller m right now p.2
 sound-after V s (Tokenize caller m request usage pan digits now) p =
-    sound-tokenize V s (token_request caller m request usage pan digits now) p
+    sound-tokenize V s (token_request caller m request usage pan (now, digits)) p
 sound-after V s (Detokenize caller m token now) p =
     sound-detokenize V s (token_command caller m token right.Detokenize now) p.3
 sound-after V s (View caller m token now) p = sound-view V s (token_command caller m token right.View now)

@@ -29,18 +29,18 @@ set_from V m x None =
 abbrev pub set_merchant : Vault → Bytes → Lives → Outcome
 set_merchant V m x = set_from V m x (merchant_at V m)
 
--- done, with the right given up to this end
-abbrev pub granting : Vault → Bytes → Bytes → Right → Option ℕ → ℕ → Merchant → Outcome
-granting V caller m right until now merchant = record {
+-- done, with the right of a caller at a merchant given up to this end
+abbrev pub granting : Vault → Bytes × (Bytes × Right) → Option ℕ → ℕ → Merchant → Outcome
+granting V given until now merchant = record {
   reply = Done;
-  after = record (moved_vault V m merchant now) {
-    rights = map.insert V.rights (caller, (m, right)) (record { ends = until });
+  after = record (moved_vault V given.1.0 merchant now) {
+    rights = map.insert V.rights given (record { ends = until });
   };
 }
 
 -- a right is given; where it was there before it gets this end
 abbrev pub grant : Vault → Bytes → Bytes → Right → Option ℕ → ℕ → Outcome
-grant V caller m right until now = of_merchant V m (granting V caller m right until now)
+grant V caller m right until now = of_merchant V m (granting V (caller, (m, right)) until now)
 
 -- done, with the right taken away
 abbrev pub withdrawal : Vault → Bytes → Bytes → Right → ℕ → Merchant → Outcome

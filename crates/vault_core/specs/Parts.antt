@@ -13,17 +13,17 @@ use Rattle.vault_core.specs.declared.right.Right.{Right}
 use Rattle.vault_core.specs.declared.right.Right.TheVariants as right
 use Rattle.vault_core.specs.declared.usage.Use.{Use}
 
--- the parts of a Tokenize
-abbrev pub token_request : Bytes → Bytes → ℕ → Use → Bytes → Bytes → ℕ → TokenRequest
-token_request caller m request usage pan digits now =
+-- the parts of a Tokenize, with the moment and the drawn digits as a source gives them
+abbrev pub token_request : Bytes → Bytes → ℕ → Use → Bytes → ℕ × Bytes → TokenRequest
+token_request caller m request usage pan given =
     record {
       caller = caller;
       merchant = m;
       request = request;
       usage = usage;
       pan = pan;
-      digits = digits;
-      moment = now;
+      digits = given.1;
+      moment = given.0;
     }
 
 -- the command of a request for a token
@@ -45,7 +45,7 @@ parts_of (command.SetMerchant m single multi lead now) = SetMerchant m (handed_l
 parts_of (command.Grant caller m right until now) = Grant caller m right until now
 parts_of (command.Withdraw caller m right now) = Withdraw caller m right now
 parts_of (command.Tokenize caller m request usage pan digits now) =
-    Tokenize (token_request caller m request usage pan digits now)
+    Tokenize (token_request caller m request usage pan (now, digits))
 parts_of (command.Detokenize caller m token now) =
     Detokenize (token_command caller m token right.Detokenize now)
 parts_of (command.View caller m token now) = View (token_command caller m token right.View now)
@@ -68,7 +68,7 @@ command_with (Audit caller m now) = command.Audit caller m now
 -- the request that a command is, where it asks for a token
 abbrev pub request_in : Command → Option TokenRequest
 request_in (command.Tokenize caller m request usage pan digits now) =
-    Some (token_request caller m request usage pan digits now)
+    Some (token_request caller m request usage pan (now, digits))
 request_in c = None
 
 -- the parts of a command, where it is one on a token

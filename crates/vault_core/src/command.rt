@@ -111,7 +111,7 @@ impl TokenRequest {
         digits: Digits,
         moment: Moment,
     ) -> TokenRequest
-        ensures { result ≡ token_request caller merchant request usage pan digits moment }
+        ensures { result ≡ token_request caller merchant request usage pan (moment, digits) }
     {
         TokenRequest {
             caller,

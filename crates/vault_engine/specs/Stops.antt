@@ -7,9 +7,10 @@ use Rattle.vault_wire.specs.Watching.{is_stopped}
 use Rattle.vault_wire.specs.declared.watched.Watched.{Watched}
 use Rattle.vault_store.specs.declared.vault.Vault.{Vault}
 use Rattle.vault_engine.specs.Answered.{Answered, AnsweredBefore, CutAt, SilentAt, UndecidedAt}
-use Rattle.vault_engine.specs.Asking.{Asked, Kind, reply_to}
+use Rattle.vault_engine.specs.Asking.{Asked, Kind, kind, reply_to}
 use Rattle.vault_engine.specs.Passing.{IsBefore, Passage}
 use Rattle.vault_engine.specs.declared.stop.Stop.{Stop}
+use Rattle.vault_engine.specs.declared.unit.Unit as unit
 use Rattle.vault_store.specs.LookUps.{WasHonest}
 use Rattle.vault_store.specs.declared.tables.Tables.{Ghosts}
 use Rattle.vault_engine.specs.declared.stop.Stop.TheVariants as stop
@@ -27,6 +28,11 @@ StopsAt k w u stop.Memory =
 abbrev pub IsAnswered : {X : Type 0} → Kind X → Passage → X → Reply → Type 0
 IsAnswered k w u reply = (x : Asked _) × (x.unit ≡ u) × Answered k [] w (x ∷ [])
     × ((V : Content) → IsBefore w V → reply ≡ reply_to V x.wanted)
+
+-- this stands of a unit, by what it may ask for and by the texts that may answer it
+abbrev pub of_unit : {U C : Type 0} (g : unit.Ghosts U) → U → (Kind g.Shown → Passage → g.Shown → C → Type 0)
+    → Passage → C → Type 0
+of_unit g u Stands w = Stands (kind (g.wants u) g.text) w (g.shown u)
 
 -- which of the four have failed: the source refused, the reader or the writer failed, the vault is broken
 pub record Failures : Type 0 where

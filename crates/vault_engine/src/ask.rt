@@ -1,13 +1,14 @@
 //! One unit asked of a vault and answered.
 ghost use Rattle.std.specs.Prelude.{◌≡◌, ◌↔◌, ◌⊎◌, ◌+◌, true, false, Err, IfErr, IfOk, OnOk};
 ghost use Rattle.vault_core.specs.Proper.{HasLivesInRange};
-ghost use Rattle.vault_core.specs.Table.{after, reply as reply_lem};
+ghost use Rattle.vault_core.specs.Table.{after};
 ghost use Rattle.vault_core.specs.Vault.{Vault as Content};
-ghost use Rattle.vault_store.specs.Applied.{Contains, is_broken, tables_of};
+ghost use Rattle.vault_store.specs.Applied.{Contains, RepliesTo, is_broken, tables_of};
 ghost use Rattle.vault_engine.specs.Asking.{Wanted, kind};
 ghost use Rattle.vault_engine.specs.Deciding.{Decided, StandsFor, Undecided, reply_in};
-ghost use Rattle.vault_engine.specs.Passing.{Passage, giving, passage, sending};
-ghost use Rattle.vault_engine.specs.Stops.{IsAnswered, StopsAt, Tells, Trusts, failures, failures_unread};
+ghost use Rattle.vault_engine.specs.Passing.{passage, passing};
+ghost use Rattle.vault_engine.specs.Stops.{IsAnswered, StopsAt, Tells, Trusts, failures};
+ghost use Rattle.vault_engine.specs.Stops.{failures_unread, of_unit};
 
 use crate::stop::Stop;
 use crate::unit::Unit;
@@ -39,7 +40,7 @@ fn apply<T: Tables>(vault: &mut Vault<T>, command: &Command) -> Result<Reply, St
     // the reply is the vault's, and the vault after the command is held
     ensures answered { T.is_honest (tables_of vault.new) → IfOk result (λ reply. (V : Content)
         → Contains T.holds vault.old V
-        → (reply ≡ reply_lem V command.now) × Contains T.holds vault.new (after V command.now)) }
+        → RepliesTo command.now V (Contains T.holds vault.new) reply) }
     // where memory was refused, the vault stays
     ensures memory { result ≡ Err Stop.Memory
         → (V : Content) → Contains T.holds vault.old V → Contains T.holds vault.new V }
@@ -135,13 +136,11 @@ pub fn ask<U: Unit, W: Write, T: Tables, S: Source>(
     source: &mut S,
 ) -> Result<Reply, Stop>
     // the unit asked for something with the pair that was taken, and its text went out after the write
-    ensures answered { let w : Passage = sending W.contents writer.old writer.new
-        (giving S.given source.old source.new (passage T.Tables vault.old vault.new)) in
-        IfOk result (IsAnswered (kind (U.wants unit.now) U.text) w (U.shown unit.now)) }
+    ensures answered { IfOk result (of_unit U.Unit unit.now IsAnswered (passing T.Tables S.given W.contents
+        (vault.old, source.old, writer.old) (vault.new, source.new, writer.new))) }
     // by which cause it stopped, and what went out and is held then
-    ensures stopped { let w : Passage = sending W.contents writer.old writer.new
-        (giving S.given source.old source.new (passage T.Tables vault.old vault.new)) in
-        IfErr result (StopsAt (kind (U.wants unit.now) U.text) w (U.shown unit.now)) }
+    ensures stopped { IfErr result (of_unit U.Unit unit.now StopsAt (passing T.Tables S.given W.contents
+        (vault.old, source.old, writer.old) (vault.new, source.new, writer.new))) }
     // a stop but Memory tells which of source, reader, writer and vault has failed; all else stays as it was
     ensures own_failure { Tells result
         (failures_unread (S.has_refused source.old) writer.old vault.old)

@@ -1,6 +1,6 @@
 -- What a service does with the bytes of a connection.
 use Rattle.std.specs.Prelude.{◌≡◌, ℕ, ◌+◌, ◌<◌, ◌⊎◌, List, [], ◌++◌, length, take, All, false, Option}
-use Rattle.std.specs.Prelude.{Some, None, IfErr, IfOk, Result, if◌then◌else◌}
+use Rattle.std.specs.Prelude.{Some, None, IfErr, IfOk, MatchResult, Result, if◌then◌else◌}
 use Rattle.std.specs.List.{flat_map}
 use Rattle.std.specs.Io.KnownBytes.{Consumes, IsAtEnd}
 use Rattle.vault_core.specs.Keys.{Bytes}
@@ -12,7 +12,7 @@ use Rattle.vault_wire.specs.Parts.{Parts}
 use Rattle.vault_engine.specs.Answered.{pairs_of, units_of}
 use Rattle.vault_engine.specs.Asking.{Asked, Asks, commands_of, texts, vault_after}
 use Rattle.vault_engine.specs.Passing.{Passage, IsBefore, Keeps, Sends, Takes}
-use Rattle.vault_engine.specs.Within.{StopsWithin}
+use Rattle.vault_engine.specs.Within.{AllAnswered, StopsWithin}
 use Rattle.vault_http.specs.Exchanges.{answer_for, fault_text, has_close, last_text, message_kind, shown}
 use Rattle.vault_http.specs.Exchanges.{up_to_close}
 use Rattle.vault_engine.specs.declared.stop.Stop.{Stop as ServeFault}
@@ -26,6 +26,12 @@ Left = Option (List ℕ)
 -- a fault is answered where no message closes the connection before it
 abbrev pub answered_fault : List Request → Option WireFault → Option WireFault
 answered_fault ms e = if has_close (shown ms) then None else e
+
+-- the messages up to the first that closes are answered, or answering stopped among them
+abbrev pub EndsAmong : {X : Type 0} → List Parts → Passage → Result X ServeFault → Type 0
+EndsAmong messages w result = MatchResult result
+    (λ _. AllAnswered message_kind [] w (up_to_close messages))
+    (StopsWithin message_kind [] w (up_to_close messages))
 
 -- The bytes that were read are messages, and an open rest or a fault; all messages up to the first that
 -- closes are answered, and then the fault; where nothing closes the connection no byte is left.

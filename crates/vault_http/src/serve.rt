@@ -1,16 +1,15 @@
 //! The messages of a connection answered, all that a piece completed before the next piece is read.
-ghost use Rattle.std.specs.Prelude.{◌≡◌, ◌+◌, [], true, false, is_err, IfOk, OnOk, MatchResult};
+ghost use Rattle.std.specs.Prelude.{◌≡◌, ◌+◌, [], true, false, is_err, IfOk, OnOk};
 ghost use Rattle.std.specs.Prelude.{length, ◌↔◌, Bool, None};
 ghost use Rattle.std.specs.Io.{ReadsAtMost};
 ghost use Rattle.std.specs.Io.KnownBytes.{ReadConsumes};
-ghost use Rattle.vault_wire.specs.Watching.{inner_of, is_stopped};
-ghost use Rattle.vault_http.specs.Exchanges.{fault_text, has_close, message_kind, up_to_close};
+ghost use Rattle.vault_wire.specs.Watching.{inner_of, is_stopped, underneath};
+ghost use Rattle.vault_http.specs.Exchanges.{fault_text, has_close, up_to_close};
 ghost use Rattle.vault_http.specs.Faults.{Tells, failures, failures_of, failures_unread};
-ghost use Rattle.vault_engine.specs.Passing.{Passage, giving, passage, sending};
+ghost use Rattle.vault_engine.specs.Passing.{passing};
 ghost use Rattle.vault_http.specs.Refusing.{IsRefused};
-ghost use Rattle.vault_http.specs.Served.{Serves};
+ghost use Rattle.vault_http.specs.Served.{EndsAmong, Serves};
 ghost use Rattle.vault_engine.specs.Stops.{Trusts};
-ghost use Rattle.vault_engine.specs.Within.{AllAnswered, StopsWithin};
 
 use crate::fault::ServeFault;
 use crate::served::Served;
@@ -43,10 +42,8 @@ fn answer_all<W: Write, T: Tables, S: Source>(
 ) -> Result<bool, ServeFault>
     // on an honest disk, Ok answers all messages up to the first that closes; a stop says what went out and
     // is kept
-    ensures ends { let w : Passage = sending W.contents writer.old writer.new
-        (giving S.given source.old source.new (passage T.Tables vault.old vault.new)) in
-        MatchResult result (λ _. AllAnswered message_kind [] w (up_to_close messages.now))
-        (StopsWithin message_kind [] w (up_to_close messages.now)) }
+    ensures ends { EndsAmong messages.now (passing T.Tables S.given W.contents
+        (vault.old, source.old, writer.old) (vault.new, source.new, writer.new)) result }
     // with Ok, it says whether one of them closes
     ensures closes { IfOk result (λ closed. closed ≡ has_close messages.now) }
     // a stop but Memory tells which of source, reader, writer and vault has failed; all else stays as it was
@@ -156,9 +153,9 @@ pub fn serve_by<R: Read, G: Guide<R>, W: Write, T: Tables, S: Source>(
 ) -> Result<Served, ServeFault>
     // on an honest disk, with Ok all is answered and each number that went out is counted; a stop says what
     // is kept
-    ensures serves { let w : Passage = sending W.contents writer.old writer.new
-        (giving S.given source.old source.new (passage T.Tables vault.old vault.new)) in
-        Serves (R.remaining (inner_of reader.old)) (R.remaining (inner_of reader.new)) w result }
+    ensures serves { underneath R.remaining Serves reader.old reader.new (passing T.Tables S.given W.contents
+        (vault.old, source.old, writer.old) (vault.new, source.new, writer.new))
+        result }
     // a stop but Memory tells which of source, reader, writer and vault has failed; all else stays as it was
     ensures own_failure { Tells result
         (failures_of (S.has_refused source.old) reader.old writer.old vault.old)
@@ -221,9 +218,9 @@ pub fn serve<R: Read, W: Write, T: Tables, S: Source>(
 ) -> Result<Served, ServeFault>
     // on an honest disk, with Ok all is answered and each number that went out is counted; a stop says what
     // is kept
-    ensures serves { let w : Passage = sending W.contents writer.old writer.new
-        (giving S.given source.old source.new (passage T.Tables vault.old vault.new)) in
-        Serves (R.remaining (inner_of reader.old)) (R.remaining (inner_of reader.new)) w result }
+    ensures serves { underneath R.remaining Serves reader.old reader.new (passing T.Tables S.given W.contents
+        (vault.old, source.old, writer.old) (vault.new, source.new, writer.new))
+        result }
     // a stop but Memory tells which of source, reader, writer and vault has failed; all else stays as it was
     ensures own_failure { Tells result
         (failures_of (S.has_refused source.old) reader.old writer.old vault.old)

@@ -6,34 +6,40 @@ use Rattle.vault_core.specs.Runs.{run}
 use Rattle.vault_core.specs.Vault.{Vault as Content}
 use Rattle.vault_core.specs.declared.command.Command.{Command}
 use Rattle.vault_listen.specs.Live.{AreGiven, Turns}
+use Rattle.vault_listen.specs.Peers.{Event}
 use Rattle.vault_engine.specs.Asking.{Pair}
-use Rattle.vault_engine.specs.Passing.{IsBefore, Passage}
+use Rattle.vault_engine.specs.Passing.{IsBefore, Passage, passage}
 use Rattle.vault_engine.specs.declared.stop.Stop.TheVariants as service
 use Rattle.vault_batch.specs.Stops.{IsBatched}
 use Rattle.vault_batch.specs.declared.asker.Asker.{Asker}
 use Rattle.vault_batch.specs.declared.row_counts.Counts.{Counts}
 use Rattle.vault_batch.specs.declared.fault.BatchFault.TheVariants as row
-use Rattle.vault_live.specs.Turns.{AreSaid, Asking, Leaves, Turn}
+use Rattle.vault_live.specs.Turns.{AreSaid, Asking, Leaves, SomeTurns, Turn}
+use Rattle.vault_live.specs.Following.{Looks}
 use Rattle.vault_listen.specs.declared.fault.ListenFault.TheVariants as listener
 use Rattle.vault_merchants.specs.ListedMerchants.{Wanted}
 use Rattle.vault_rights.specs.Named.{Row}
 use Rattle.vault_store.specs.Listed.{merchant_rows}
+use Rattle.vault_store.specs.declared.tables.Tables.{Ghosts}
 use Rattle.vault_store.specs.declared.vault.Fault.{Fault}
+use Rattle.vault_store.specs.declared.vault.Vault.{Vault as Holder}
+use Rattle.vault_wire.specs.declared.watched.Watched.{Watched}
 use Rattle.vault_changes.specs.Settings.{settings_at}
 use Rattle.vault_changes.specs.Settling.{FailsToRead, IsUntouched}
 use Rattle.vault_changes.specs.Moments.{is_merchant_ahead}
 use Rattle.vault_jobs.specs.Ahead.{moment_ahead}
 use Rattle.vault_jobs.specs.Batched.{StopsBatch}
 use Rattle.vault_jobs.specs.Beginning.{CarriesOut}
-use Rattle.vault_jobs.specs.Lists.{asked_of, begin_of, follows}
+use Rattle.vault_jobs.specs.Lists.{asked_at, asked_of, begin_of, follows}
 use Rattle.vault_changes.specs.Carried.{Carries}
 use Rattle.vault_jobs.specs.Causes.{IsCauseOf}
 use Rattle.vault_changes.specs.Grants.{AreDone, CarriesAll, grants_at}
 use Rattle.vault_jobs.specs.Notes.{IsNoted, withdrawn_by}
 use Rattle.vault_jobs.specs.Outcomes.{ComesTo, no_outcome}
-use Rattle.vault_jobs.specs.Outside.{Outside}
+use Rattle.vault_jobs.specs.Outside.{Outside, outside}
 use Rattle.vault_jobs.specs.Piped.{IsPiped, StopsPiping}
-use Rattle.vault_jobs.specs.Streams.{Known, Output, Seen, Streams, output_in}
+use Rattle.vault_jobs.specs.Streams.{Known, Output, Seen, Streams, output_in, output_of}
+use Rattle.vault_jobs.specs.Streams.{seen_over, seen_with}
 use Rattle.vault_jobs.specs.Sweeps.{Sweeps}
 use Rattle.vault_jobs.specs.Tasks.{BreaksBy, HasNoTurns, IsTaskBegun, granted_line}
 use Rattle.vault_jobs.specs.Tasks.{listening_line, merchants_line, purged_line}
@@ -216,6 +222,24 @@ ListedServeEnds it lists w result out turns =
     × ServeEnds it (behind (begin_of lists) w) result out turns
     × (follows lists ≡ false → EndsUnfailed result out.writer)
 
+-- How a service on a port ends, by the network, the vault and the output before it and after it: in turns of
+-- which the network tells. It is told these moments, may be asked so by them, and is to serve so many
+-- connections on this port.
+abbrev pub PortServed : {N T W : Type 0} → (N → List Event → Type 0) × Ghosts T × (W → Known)
+    → N × Holder T × Watched W → N × Holder T × Watched W → Turns × (Turns → Asking) × ℕ × ℕ
+    → Result Outcome Stop → Type 0
+PortServed over old new it result = SomeTurns over.0 old.0 new.0
+    (ServeEnds (serving_of it.0 (it.1 it.0) it.2 it.3) (passage over.1 old.1 new.1) result
+    (output_of over.2 old.2 new.2))
+
+-- The same of a service that may follow lists, whose files have these texts at these looks.
+abbrev pub ListsServed : {N T W : Type 0} → (N → List Event → Type 0) × Ghosts T × (W → Known)
+    → N × Holder T × Watched W → N × Holder T × Watched W → Turns × (List ℕ → Looks) × Lists × ℕ × ℕ
+    → Result Outcome Stop → Type 0
+ListsServed over old new it result = SomeTurns over.0 old.0 new.0
+    (ListedServeEnds (serving_of it.0 (asked_at it.1 it.2 it.0) it.3 it.4) it.2
+    (passage over.1 old.1 new.1) result (output_of over.2 old.2 new.2))
+
 -- what a task does with a vault, and what goes out, by how it ends
 abbrev pub Works : Outside → Task → Passage → Result Outcome Stop → Seen → Type 0
 Works at (Change c) w result v = ChangeEnds c w result (output_in v)
@@ -242,3 +266,12 @@ pub record Does (at : Outside) (task : Task) (w : Passage) (result : Result Outc
   pub alone : HasNoTurns task v.streams
   pub caused : IfErr result (λ stop. IsCauseOf stop v.streams)
   pub breaks : BreaksBy task result w.broken
+
+-- What a task does, by the network, the vault, the input and the output before it and after it, in turns of
+-- which the network tells. It is told these moments, and files have these texts at these looks.
+abbrev pub TaskDone : {N T R W : Type 0} → (N → List Event → Type 0) × Ghosts T × (R → Known) × (W → Known)
+    → N × Holder T × Watched R × Watched W → N × Holder T × Watched R × Watched W
+    → Turns × (List ℕ → Looks) → Task → Result Outcome Stop × Option Note → Type 0
+TaskDone over old new at task ended = SomeTurns over.0 old.0 new.0
+    (λ turns. Does (outside at.0 at.1) task (passage over.1 old.1 new.1) ended.0 ended.1
+    (seen_with (seen_over over.2 old.2 new.2 over.3 old.3 new.3) turns))

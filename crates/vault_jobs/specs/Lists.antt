@@ -5,11 +5,12 @@ use Rattle.vault_core.specs.Runs.{run}
 use Rattle.vault_core.specs.Vault.{Vault as Content}
 use Rattle.vault_core.specs.declared.command.Command.{Command}
 use Rattle.vault_merchants.specs.ListedMerchants.{AreListed, Wanted}
-use Rattle.vault_live.specs.Following.{AreRowsIn, Asks}
+use Rattle.vault_listen.specs.Live.{Turns}
+use Rattle.vault_live.specs.Following.{AreRowsIn, Asks, Looks}
 use Rattle.vault_live.specs.Kinds.{Naming, Wanting, merchants_changes, rights_changes}
 use Rattle.vault_live.specs.Sweeping.{AsksPurges}
 use Rattle.vault_live.specs.Turns.{Asking}
-use Rattle.vault_jobs.specs.Outside.{Outside}
+use Rattle.vault_jobs.specs.Outside.{Outside, outside}
 use Rattle.vault_jobs.specs.declared.lists.ListFile.{ListFile}
 use Rattle.vault_jobs.specs.declared.lists.Lists.{Lists}
 
@@ -54,3 +55,7 @@ abbrev pub asked_of : Outside → Lists → Asking
 asked_of at lists V cs = asked_by AreListed merchants_changes at lists.merchants V cs
     ⊎ asked_by AreRowsIn rights_changes at lists.rights V cs
     ⊎ swept_by at lists.merchants V cs
+
+-- the same, by which text the file at a path had at which look, and by the moments that are told
+abbrev pub asked_at : (List ℕ → Looks) → Lists → Turns → Asking
+asked_at looks lists tells = asked_of (outside tells looks) lists

@@ -18,7 +18,9 @@ use Rattle.vault_engine.specs.Answered.{pairs_of, units_of}
 use Rattle.vault_engine.specs.Asking.{Asked, Asks, Pair, texts}
 use Rattle.vault_http.specs.Exchanges.{up_to_close}
 use Rattle.vault_http.specs.Served.{Begins, answered_fault}
+use Rattle.vault_listen.specs.Live.{AreGiven, Turns}
 use Rattle.vault_jobs.specs.Streams.{Known}
+use Rattle.vault_jobs.specs.declared.trial.Trial.{Trial}
 
 -- all rights
 abbrev pub all_rights : List Right
@@ -42,6 +44,11 @@ grants caller m now rights = map (λ right. Grant caller m right None now) right
 abbrev pub trial_vault : List ℕ → List ℕ → ℕ → ℕ → Content
 trial_vault caller m life now =
     left_by_all empty_vault (setting m (usual_lives life 0 now) ∷ grants caller m now all_rights)
+
+-- this stands of a trial, by the pairs that it may give and by its vault
+abbrev pub of_trial : {C : Type 1} → Turns → Trial → ((List Pair → Type 0) → Content → C) → C
+of_trial tells it Stands =
+    Stands (AreGiven tells it.moment it.digits) (trial_vault it.caller it.merchant it.life it.made)
 
 -- The bytes that were read are messages, and an open rest or a fault. All messages up to the first that
 -- closes are asked, each with a pair of the trial's own. What went out is the texts that answer them, each by

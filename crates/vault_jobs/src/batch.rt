@@ -3,7 +3,7 @@ ghost use Rattle.std.specs.Prelude.{◌≡◌, Err, IfErr, IfOk, OnOk, true};
 ghost use Rattle.std.specs.Io.KnownBytes.{IsAtEnd};
 ghost use Rattle.vault_engine.specs.Stops.{Trusts};
 ghost use Rattle.vault_wire.specs.Watching.{inner_of, is_stopped};
-ghost use Rattle.vault_engine.specs.Passing.{Passage, giving, passage, sending};
+ghost use Rattle.vault_engine.specs.Passing.{passing};
 ghost use Rattle.vault_batch.specs.Faults.{Tells};
 ghost use Rattle.vault_batch.specs.Stops.{IsBatched};
 ghost use Rattle.vault_http.specs.Faults.{failures_unread};
@@ -35,18 +35,18 @@ pub fn batch_input<R: Read, W: Write, T: Tables, S: Source>(
 ) -> Result<Counts, BatchFault>
     // Ok counts the input's rows, where it is known; on an honest disk, all are answered and the vault after
     // them is kept
-    ensures batched { let w : Passage = sending W.contents output.old output.new
-        (giving S.given source.old source.new (passage T.Tables vault.old vault.new)) in
-        IfOk result (IsBatched (R.remaining (inner_of input.old)) w asker) }
+    ensures batched { IfOk result (IsBatched (R.remaining (inner_of input.old))
+        (passing T.Tables S.given W.contents
+        (vault.old, source.old, output.old) (vault.new, source.new, output.new)) asker) }
     // with Ok, no byte of the input is left, where it is known
     ensures end { OnOk result (IsAtEnd (R.remaining (inner_of input.new))) }
     // with Ok, neither the reader nor the writer has failed
     ensures unfailed { GoesOn result input.new × GoesOn result output.new }
     // the fault says at which row it stopped, and what went out and is kept; or all are answered, and it is
     // Write
-    ensures stopped { let w : Passage = sending W.contents output.old output.new
-        (giving S.given source.old source.new (passage T.Tables vault.old vault.new)) in
-        IfErr result (StopsBatch (R.remaining (inner_of input.old)) w asker) }
+    ensures stopped { IfErr result (StopsBatch (R.remaining (inner_of input.old))
+        (passing T.Tables S.given W.contents
+        (vault.old, source.old, output.old) (vault.new, source.new, output.new)) asker) }
     // with Read the reader has failed
     ensures read { result ≡ Err BatchFault.Read → is_stopped input.new ≡ true }
     // Source, Write and Store tell that this one has failed; whether the others have stays as it was

@@ -1,11 +1,8 @@
 //! A vault served on a port.
-ghost use Rattle.std.specs.Prelude.{◌≡◌, Err, List, false, true};
+ghost use Rattle.std.specs.Prelude.{◌≡◌, false, true};
 ghost use Rattle.vault_store.specs.Applied.{is_broken};
 ghost use Rattle.vault_wire.specs.Watching.{is_stopped};
-ghost use Rattle.vault_engine.specs.Passing.{passage};
-ghost use Rattle.vault_live.specs.Turns.{TellsTurns, Turn};
-ghost use Rattle.vault_jobs.specs.Doing.{EndsUnfailed, ServeEnds, serving_of};
-ghost use Rattle.vault_jobs.specs.Streams.{output_of};
+ghost use Rattle.vault_jobs.specs.Doing.{EndsUnfailed, PortServed};
 ghost use Rattle.vault_jobs.specs.Tasks.{BreaksTask, FailsStore};
 ghost use Rattle.vault_store.specs.LookUps.{WasHonest};
 
@@ -46,9 +43,9 @@ pub fn serve_at<K: Timekeeper, N: Network, O: Office, W: Write, T: Tables>(
     requires unbroken { is_broken vault.old ≡ false }
     // it said its port, and its turns are those that the network tells of; or there was none, and on an
     // honest disk the vault stayed
-    ensures does { (turns : List Turn) × TellsTurns (N.tells network.old) (N.tells network.new) turns
-        × ServeEnds (serving_of (K.tells time.now) (O.asks office.now (K.tells time.now)) port connections)
-        (passage T.Tables vault.old vault.new) result (output_of W.contents output.old output.new) turns }
+    ensures does { PortServed (N.tells, T.Tables, W.contents)
+        (network.old, vault.old, output.old) (network.new, vault.new, output.new)
+        (K.tells time.now, O.asks office.now, port, connections) result }
     ensures broken { BreaksTask vault.new result }
     // and there always, where the office carries out nothing
     ensures store { O.acts office.now ≡ false → FailsStore result → is_broken vault.new ≡ true }

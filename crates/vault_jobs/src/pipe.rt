@@ -1,8 +1,8 @@
 //! The messages of standard input answered on standard output.
 ghost use Rattle.std.specs.Prelude.{◌≡◌, Err, IfErr, OnOk};
-ghost use Rattle.vault_wire.specs.Watching.{inner_of};
+ghost use Rattle.vault_wire.specs.Watching.{underneath};
 ghost use Rattle.vault_http.specs.Faults.{Tells, failures_of};
-ghost use Rattle.vault_engine.specs.Passing.{Passage, giving, passage, sending};
+ghost use Rattle.vault_engine.specs.Passing.{passing};
 ghost use Rattle.vault_jobs.specs.Failing.{GoesOn};
 ghost use Rattle.vault_jobs.specs.Piped.{IsPiped, StopsPiping};
 ghost use Rattle.vault_engine.specs.Stops.{Trusts};
@@ -31,14 +31,14 @@ pub fn pipe<R: Read, W: Write, T: Tables, S: Source>(
 ) -> Result<(), ServeFault>
     // with Ok, on an honest disk, messages up to the first that closes are answered, a fault too, and what
     // they leave is kept
-    ensures served { let w : Passage = sending W.contents output.old output.new
-        (giving S.given source.old source.new (passage T.Tables vault.old vault.new)) in
-        OnOk result (IsPiped (R.remaining (inner_of input.old)) (R.remaining (inner_of input.new)) w) }
+    ensures served { OnOk result (underneath R.remaining IsPiped input.old input.new
+        (passing T.Tables S.given W.contents
+        (vault.old, source.old, output.old) (vault.new, source.new, output.new))) }
     // the fault says at which message it stopped, and what went out and is kept; or all are answered, and it
     // is Write
-    ensures stopped { let w : Passage = sending W.contents output.old output.new
-        (giving S.given source.old source.new (passage T.Tables vault.old vault.new)) in
-        IfErr result (StopsPiping (R.remaining (inner_of input.old)) (R.remaining (inner_of input.new)) w) }
+    ensures stopped { IfErr result (underneath R.remaining StopsPiping input.old input.new
+        (passing T.Tables S.given W.contents
+        (vault.old, source.old, output.old) (vault.new, source.new, output.new))) }
     // with Ok, the writer hasn't failed
     ensures writer_ok { GoesOn result output.new }
     // a stop but Memory tells which of source, reader, writer and vault has failed; all else stays as it was

@@ -1,14 +1,10 @@
 //! A vault served on a port, with the lists that are followed.
-ghost use Rattle.std.specs.Prelude.{◌≡◌, All, IfSome, List, false, true};
+ghost use Rattle.std.specs.Prelude.{◌≡◌, All, IfSome, false, true};
 ghost use Rattle.vault_store.specs.Applied.{is_broken};
 ghost use Rattle.vault_wire.specs.Watching.{is_stopped};
-ghost use Rattle.vault_engine.specs.Passing.{passage};
 ghost use Rattle.vault_changes.specs.Settings.{HasLives};
-ghost use Rattle.vault_live.specs.Turns.{TellsTurns, Turn};
-ghost use Rattle.vault_jobs.specs.Doing.{EndsUnfailed, ListedServeEnds, ServeEnds, serving_of};
-ghost use Rattle.vault_jobs.specs.Lists.{asked_of, follows};
-ghost use Rattle.vault_jobs.specs.Outside.{outside};
-ghost use Rattle.vault_jobs.specs.Streams.{output_of};
+ghost use Rattle.vault_jobs.specs.Doing.{EndsUnfailed, ListsServed, PortServed};
+ghost use Rattle.vault_jobs.specs.Lists.{asked_at, follows};
 ghost use Rattle.vault_jobs.specs.Tasks.{BreaksBy, BreaksTask, FailsStore};
 ghost use Rattle.vault_jobs.specs.declared.task.Task.{Task};
 ghost use Rattle.vault_store.specs.LookUps.{WasHonest};
@@ -46,10 +42,9 @@ fn serve_following<K: Timekeeper, N: Network, D: Desk, W: Write, T: Tables>(
     requires unbroken { is_broken vault.old ≡ false }
     // it said its port, and its turns are those that the network tells of; or there was none, and on an
     // honest disk the vault stayed
-    ensures does { (turns : List Turn) × TellsTurns (N.tells network.old) (N.tells network.new) turns
-        × ServeEnds (serving_of (K.tells time.now) (asked_of (outside (K.tells time.now) (D.says desk.now))
-        lists.now) port connections) (passage T.Tables vault.old vault.new) result
-        (output_of W.contents output.old output.new) turns }
+    ensures does { PortServed (N.tells, T.Tables, W.contents)
+        (network.old, vault.old, output.old) (network.new, vault.new, output.new)
+        (K.tells time.now, asked_at (D.says desk.now) lists.now, port, connections) result }
     ensures broken { BreaksTask vault.new result }
     // and there always, where nothing is followed
     ensures store { follows lists.now ≡ false → FailsStore result → is_broken vault.new ≡ true }
@@ -102,10 +97,9 @@ pub(crate) fn serve_lists<K: Timekeeper, N: Network, D: Desk, W: Write, T: Table
     requires unbroken { is_broken vault.old ≡ false }
     // what the lists ask for is done before it listens, or there was no turn; from the vault that this leaves
     // it ends as a service
-    ensures does { (turns : List Turn) × TellsTurns (N.tells network.old) (N.tells network.new) turns
-        × ListedServeEnds (serving_of (K.tells time.now)
-        (asked_of (outside (K.tells time.now) (D.says desk.now)) lists.now) port connections) lists.now
-        (passage T.Tables vault.old vault.new) result (output_of W.contents output.old output.new) turns }
+    ensures does { ListsServed (N.tells, T.Tables, W.contents)
+        (network.old, vault.old, output.old) (network.new, vault.new, output.new)
+        (K.tells time.now, D.says desk.now, lists.now, port, connections) result }
     // the vault is broken only where the store failed, and there always, unless a list is followed
     ensures breaks { BreaksBy (Task.Serve port connections lists.now) result (is_broken vault.new) }
     ensures disk_honest { WasHonest T.Tables vault.old vault.new }

@@ -1,8 +1,7 @@
 //! What is said of a vault: its merchants and rights, or what would change by a list of either.
 ghost use Rattle.std.specs.Prelude.{◌≡◌, IfErr, IfOk, false};
-ghost use Rattle.vault_core.specs.Vault.{Vault as Content};
 ghost use Rattle.vault_store.specs.Applied.{is_broken};
-ghost use Rattle.vault_engine.specs.Passing.{IsBefore, Keeps, Passage, passage};
+ghost use Rattle.vault_engine.specs.Passing.{OfKept, passage};
 ghost use Rattle.vault_changes.specs.Failing.{BreaksByStore};
 ghost use Rattle.vault_changes.specs.Settling.{FailsToRead};
 ghost use Rattle.vault_jobs.specs.ListingLines.{shown_text};
@@ -24,9 +23,8 @@ use vault_store::vault::{Fault, Vault};
 fn listing_of<T: Tables>(alloc: Global, vault: &mut Vault<T>, form: Form) -> Result<Vec<u8>, Fault>
     requires unbroken { is_broken vault.old ≡ false }
     // with Ok, on an honest disk, this is the text of each vault that was held, and that one is kept
-    ensures text { let w : Passage = passage T.Tables vault.old vault.new in
-        IfOk result (λ text. (V : Content) → IsBefore w V
-        → (text.items ≡ shown_text (Shown.Listing form) V) × Keeps w V) }
+    ensures text { IfOk result (λ text. OfKept (passage T.Tables vault.old vault.new)
+        (λ V. text.items ≡ shown_text (Shown.Listing form) V)) }
     ensures failed { IfErr result (FailsToRead (passage T.Tables vault.old vault.new)) }
     ensures broken { BreaksByStore vault.new result }
     ensures disk_honest { WasHonest T.Tables vault.old vault.new }
@@ -51,9 +49,8 @@ fn difference_of<T: Tables>(
 ) -> Result<Vec<u8>, Fault>
     requires unbroken { is_broken vault.old ≡ false }
     // with Ok, on an honest disk, this is the text of each vault that was held, and that one is kept
-    ensures text { let w : Passage = passage T.Tables vault.old vault.new in
-        IfOk result (λ text. (V : Content) → IsBefore w V
-        → (text.items ≡ shown_text (Shown.Changes exact rows.now now) V) × Keeps w V) }
+    ensures text { IfOk result (λ text. OfKept (passage T.Tables vault.old vault.new)
+        (λ V. text.items ≡ shown_text (Shown.Changes exact rows.now now) V)) }
     ensures failed { IfErr result (FailsToRead (passage T.Tables vault.old vault.new)) }
     ensures broken { BreaksByStore vault.new result }
     ensures disk_honest { WasHonest T.Tables vault.old vault.new }
@@ -76,9 +73,8 @@ fn lacking_of<T: Tables>(
 ) -> Result<Vec<u8>, Fault>
     requires unbroken { is_broken vault.old ≡ false }
     // with Ok, on an honest disk, this is the text of each vault that was held, and that one is kept
-    ensures text { let w : Passage = passage T.Tables vault.old vault.new in
-        IfOk result (λ text. (V : Content) → IsBefore w V
-        → (text.items ≡ shown_text (Shown.Settings rows.now now) V) × Keeps w V) }
+    ensures text { IfOk result (λ text. OfKept (passage T.Tables vault.old vault.new)
+        (λ V. text.items ≡ shown_text (Shown.Settings rows.now now) V)) }
     ensures failed { IfErr result (FailsToRead (passage T.Tables vault.old vault.new)) }
     ensures broken { BreaksByStore vault.new result }
     ensures disk_honest { WasHonest T.Tables vault.old vault.new }
@@ -100,9 +96,8 @@ pub(crate) fn text_of<T: Tables>(
 ) -> Result<Vec<u8>, Fault>
     requires unbroken { is_broken vault.old ≡ false }
     // with Ok, on an honest disk, this is the text of each vault that was held, and that one is kept
-    ensures text { let w : Passage = passage T.Tables vault.old vault.new in
-        IfOk result (λ text. (V : Content) → IsBefore w V
-        → (text.items ≡ shown_text shown.now V) × Keeps w V) }
+    ensures text { IfOk result (λ text. OfKept (passage T.Tables vault.old vault.new)
+        (λ V. text.items ≡ shown_text shown.now V)) }
     ensures failed { IfErr result (FailsToRead (passage T.Tables vault.old vault.new)) }
     ensures broken { BreaksByStore vault.new result }
     ensures disk_honest { WasHonest T.Tables vault.old vault.new }

@@ -1,17 +1,14 @@
 //! What is done with a vault.
-ghost use Rattle.std.specs.Prelude.{◌≡◌, All, IfErr, List, false, length};
+ghost use Rattle.std.specs.Prelude.{◌≡◌, All, IfErr, false, length};
 ghost use Rattle.vault_store.specs.Applied.{is_broken};
 ghost use Rattle.vault_engine.specs.Passing.{passage};
-ghost use Rattle.vault_live.specs.Turns.{TellsTurns, Turn};
 ghost use Rattle.vault_jobs.specs.Causes.{IsCauseOf};
-ghost use Rattle.vault_jobs.specs.Outside.{outside};
-ghost use Rattle.vault_jobs.specs.Streams.{Seen, output_of, seen_over, streams};
-ghost use Rattle.vault_jobs.specs.Doing.{BatchEnds, CommandsEnd, Does, PipeEnds};
-ghost use Rattle.vault_jobs.specs.Doing.{SetEnds, SettleEnds, ShowEnds};
+ghost use Rattle.vault_jobs.specs.Streams.{output_of, seen_over, streams};
+ghost use Rattle.vault_jobs.specs.Doing.{BatchEnds, CommandsEnd, PipeEnds};
+ghost use Rattle.vault_jobs.specs.Doing.{SetEnds, SettleEnds, ShowEnds, TaskDone};
 ghost use Rattle.vault_jobs.specs.ListingLines.{shown_text};
 ghost use Rattle.vault_changes.specs.Grants.{CarriesAll, grants_at};
 ghost use Rattle.vault_changes.specs.Settings.{HasLives};
-ghost use Rattle.vault_jobs.specs.Streams.{seen_with};
 ghost use Rattle.vault_jobs.specs.Tasks.{BreaksBy, BreaksTask, IsProper, granted_line};
 ghost use Rattle.vault_jobs.specs.declared.task.Task.{Task};
 ghost use Rattle.vault_listen.specs.Live.{AreGiven};
@@ -294,10 +291,9 @@ pub fn do_task<K: Timekeeper, N: Network, D: Desk, R: Read, W: Write, T: Tables>
     requires unbroken { is_broken vault.old ≡ false }
     // by how it ends: what it did to the vault, what it read and sent, what is noted, and which turns the
     // network tells of
-    ensures does { let v : Seen = seen_over R.remaining input.old input.new W.contents output.old output.new
-        in (turns : List Turn) × TellsTurns (N.tells network.old) (N.tells network.new) turns
-        × Does (outside (K.tells time.now) (D.says desk.now)) task.now (passage T.Tables vault.old vault.new)
-        result.0 result.1 (seen_with v turns) }
+    ensures does { TaskDone (N.tells, T.Tables, R.remaining, W.contents)
+        (network.old, vault.old, input.old, output.old) (network.new, vault.new, input.new, output.new)
+        (K.tells time.now, D.says desk.now) task.now result }
     ensures disk_honest { WasHonest T.Tables vault.old vault.new }
 {
     match *task {

@@ -5,11 +5,10 @@ ghost use Rattle.vault_core.specs.Scalar.{IsLife};
 ghost use Rattle.vault_core.specs.Vault.{Vault as Content};
 ghost use Rattle.vault_store.specs.Applied.{Contains, is_broken};
 ghost use Rattle.vault_store.specs.HeldInMemory.{IsHeld};
-ghost use Rattle.vault_wire.specs.Watching.{inner_of, is_stopped};
+ghost use Rattle.vault_wire.specs.Watching.{is_stopped, underneath};
 ghost use Rattle.vault_jobs.specs.Failing.{GoesOn};
 ghost use Rattle.vault_jobs.specs.Causes.{IsCause};
-ghost use Rattle.vault_jobs.specs.Trial.{IsCut, IsTrial, left_by, trial_vault as trial_vault_lem};
-ghost use Rattle.vault_listen.specs.Live.{AreGiven};
+ghost use Rattle.vault_jobs.specs.Trial.{IsCut, IsTrial, left_by, of_trial, trial_vault as trial_vault_lem};
 
 use crate::pipe::pipe;
 use crate::source::{MOST_MESSAGES, pairs};
@@ -121,18 +120,16 @@ pub fn serve_trial<H: AllocGlobal + RandomSource, K: Timekeeper, R: Read, W: Wri
     requires { IsLife trial.now.life }
     // with Ok, the messages read up to the first that closes are answered by the trial's vault, and then a
     // fault
-    ensures served { OnOk result (IsTrial (AreGiven (K.tells time.now) trial.now.moment trial.now.digits)
-        (trial_vault_lem trial.now.caller trial.now.merchant trial.now.life trial.now.made)
-        (R.remaining (inner_of input.old)) (R.remaining (inner_of input.new))
-        (W.contents (inner_of output.old)) (W.contents (inner_of output.new))) }
+    ensures served { OnOk result (underneath W.contents
+        (underneath R.remaining (of_trial (K.tells time.now) trial.now IsTrial) input.old input.new)
+        output.old output.new) }
     // with Ok, the writer hasn't failed
     ensures writer_ok { GoesOn result output.new }
     // with Err, what was read begins with messages, and a beginning of the texts that answer some of them
     // went out
-    ensures cut { OnErr result (IsCut (AreGiven (K.tells time.now) trial.now.moment trial.now.digits)
-        (trial_vault_lem trial.now.caller trial.now.merchant trial.now.life trial.now.made)
-        (R.remaining (inner_of input.old)) (R.remaining (inner_of input.new))
-        (W.contents (inner_of output.old)) (W.contents (inner_of output.new))) }
+    ensures cut { OnErr result (underneath W.contents
+        (underneath R.remaining (of_trial (K.tells time.now) trial.now IsCut) input.old input.new)
+        output.old output.new) }
     // Read comes only where the reader failed, and Write only where the writer did
     ensures stopped { IfErr result (λ e. IsCause e (is_stopped input.new) (is_stopped output.new)) }
     // it is never stopped by Store

@@ -1,13 +1,16 @@
 -- What is told of the peers of a service.
-use Rattle.std.specs.Prelude.{◌≡◌, ◌≤◌, ℕ, ◌+◌, List, [], ◌∷◌, ◌++◌, Bool, false, Option}
+use Rattle.std.specs.Prelude.{◌≡◌, ◌≤◌, ℕ, ◌+◌, List, [], ◌∷◌, ◌++◌, Bool, false, Option, ◌≢◌, Err}
 use Rattle.std.specs.Prelude.{Some, None, Result, length, MatchResult}
 use Rattle.vault_store.specs.Applied.{is_broken}
 use Rattle.vault_store.specs.declared.vault.Vault.{Vault}
+use Rattle.vault_wire.specs.Watching.{inner_of, is_stopped}
+use Rattle.vault_wire.specs.declared.watched.Watched.{Watched}
 use Rattle.vault_engine.specs.Asking.{Pair}
 use Rattle.vault_http.specs.Faults.{Tells, failures}
 use Rattle.vault_engine.specs.Passing.{Passage, passage}
 use Rattle.vault_http.specs.Served.{IsServed, IsStopped}
 use Rattle.vault_engine.specs.declared.stop.Stop.{Stop as ServeFault}
+use Rattle.vault_engine.specs.declared.stop.Stop.TheVariants as fault
 use Rattle.vault_http.specs.declared.served.Served.{Served}
 use Rattle.vault_listen.specs.Live.{AreGiven, Turns}
 use Rattle.vault_listen.specs.declared.peers.Accepted.{Accepted}
@@ -30,6 +33,13 @@ pub data Event : Type 0 where
 abbrev pub coming : {R W : Type 0} → (R → Known) → (W → Known) → Option (Accepted R W) → Event
 coming remaining contents None = Lost
 coming remaining contents (Some it) = Came (remaining it.reader) (contents it.writer)
+
+-- the event of a close, by what the reader has left, what the writer has taken, and how the service ended
+abbrev pub closed_as : {R W : Type 0} → (R → Known) → (W → Known) → Watched R → Watched W
+    → Result Served ServeFault → Event
+closed_as remaining contents reader writer ended =
+    Closed (remaining (inner_of reader)) (contents (inner_of writer))
+    (is_stopped reader) (is_stopped writer) ended
 
 -- how many connections came, whether they were accepted or lost before
 abbrev pub came_in : List Event → ℕ
@@ -86,9 +96,24 @@ pub record IsLink {T : Type 0} (tells : Turns) (g : Ghosts T) (x : Link) (v v' :
       (failures refused x.reader x.writer (is_broken v'))
   pub back : WasHonest g v v'
 
+-- one connection was served by a vault and closed so, and the result is an Err exactly where the store failed
+-- in it
+abbrev pub ServesOne : {T X E : Type 0} → Turns → Ghosts T → Vault T → Vault T → (Link → Type 0)
+    → Result X E → Type 0
+ServesOne tells g v v' Closes result = (x : Link) × IsLink tells g x v v' × Closes x
+    × MatchResult result (λ _. x.ended ≢ Err fault.Store) (λ _. x.ended ≡ Err fault.Store)
+
 -- connections were served one after the other, each by the vault that those before it leave
 abbrev pub AreLinks : {T : Type 0} → Turns → Ghosts T → List (Option Link) → Vault T → Vault T → Type 0
 AreLinks tells g [] v v' = v' ≡ v
 AreLinks tells g (None ∷ xs) v v' = AreLinks tells g xs v v'
 AreLinks {T} tells g (Some x ∷ xs) v v' =
     (middle : Vault T) × IsLink tells g x v middle × AreLinks tells g xs middle v'
+
+-- Connections came and were closed between the two, of which the peers tell, some were lost before, and they
+-- were served one after the other by one vault; and this is what they leave of it.
+abbrev pub ServesLinks : {P T : Type 0} → Turns → (P → List Event → Type 0) → Ghosts T → P × Vault T
+    → P × Vault T → (List (Option Link) → Passage → Type 0) → Type 0
+ServesLinks tells told g old new Leave = (xs : List (Option Link)) × Leave xs (passage g old.1 new.1)
+    × AreLinks tells g xs old.1 new.1
+    × ((log : List Event) → told old.0 log → told new.0 (log ++ events_of xs))

@@ -3,13 +3,26 @@ use Rattle.std.specs.Prelude.{◌≡◌, ◌≢◌, ℕ, ◌<◌, ◌≤◌, Lis
 use Rattle.std.specs.Prelude.{MatchResult, Result, Ok, Err, false}
 use Rattle.vault_core.specs.Vault.{Vault as Content}
 use Rattle.vault_engine.specs.Asking.{Pair}
-use Rattle.vault_engine.specs.Passing.{Passage, IsBefore, Keeps}
+use Rattle.vault_engine.specs.Passing.{Passage, IsBefore, Keeps, giving}
 use Rattle.vault_http.specs.Served.{IsServed, IsStopped}
+use Rattle.vault_engine.specs.declared.stop.Stop.{Stop as ServeFault}
 use Rattle.vault_engine.specs.declared.stop.Stop.TheVariants as fault
+use Rattle.vault_http.specs.declared.served.Served.{Served}
 use Rattle.vault_listen.specs.Live.{AreGiven, Turns}
-use Rattle.vault_listen.specs.Peers.{Link}
+use Rattle.vault_listen.specs.Peers.{Known, Link}
 use Rattle.vault_listen.specs.declared.fault.ListenFault.{ListenFault}
 use Rattle.vault_listen.specs.declared.fault.ListenFault.TheVariants.{Source, Store, Memory, Accept}
+
+-- with at most 1000 pairs that a source gave in the passage, each a moment told for it alone and a drawing,
+-- this holds
+abbrev pub WithPairs : Turns → Passage → (Passage → Type 0) → Type 0
+WithPairs tells w Holds = (pairs : List Pair) × (length pairs ≤ 1000)
+    × AreGiven tells None None pairs × Holds (giving (λ ps. ps) [] pairs w)
+
+-- the messages that were read are served, or the service stopped
+abbrev pub EndsServed : Result Served ServeFault → Known → Known → Passage → Type 0
+EndsServed result left_old left_new w =
+    MatchResult result (IsServed left_old left_new w) (IsStopped left_old left_new w)
 
 -- the passage of a connection in which a source gave these pairs, from the vault V to the vault W; a stop
 -- within its last message leaves W or U. Whether the vault is broken isn't seen.

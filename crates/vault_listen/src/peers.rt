@@ -1,9 +1,7 @@
 //! Where the connections of a service come from.
 ghost use Rattle.std.specs.Prelude.{◌≡◌, ◌++◌, [], ◌∷◌, List, IfErr, IfOk};
-ghost use Rattle.vault_wire.specs.Watching.{inner_of, is_stopped};
-ghost use Rattle.vault_listen.specs.Peers.{Event, coming};
+ghost use Rattle.vault_listen.specs.Peers.{Event, closed_as, coming};
 ghost use Rattle.vault_listen.specs.declared.fault.ListenFault.TheVariants.{Accept};
-ghost use Rattle.vault_listen.specs.Peers.Event.{Closed};
 
 use crate::fault::ListenFault;
 use std::io::Write;
@@ -61,7 +59,6 @@ pub trait Peers {
         ended: Result<Served, ServeFault>,
     )
         // this close stands behind what was told before
-        ensures { (log : List Event) → tells self.old log → tells self.new (log
-            ++ Closed (Self.Reader.remaining (inner_of reader)) (Self.Writer.contents (inner_of writer))
-            (is_stopped reader) (is_stopped writer) ended ∷ []) };
+        ensures { (log : List Event) → tells self.old log → tells self.new
+            (log ++ closed_as Self.Reader.remaining Self.Writer.contents reader writer ended ∷ []) };
 }

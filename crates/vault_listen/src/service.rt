@@ -1,16 +1,13 @@
 //! Connections of peers, served one after the other by one vault.
-ghost use Rattle.std.specs.Prelude.{◌≡◌, ◌≢◌, ◌↔◌, ◌++◌, List, Option, false, true, Err, IsTrue};
-ghost use Rattle.std.specs.Prelude.{MatchResult, ◌≤◌, Bool, [], None, length};
+ghost use Rattle.std.specs.Prelude.{◌≡◌, ◌≢◌, ◌↔◌, false, true, Err, IsTrue};
+ghost use Rattle.std.specs.Prelude.{MatchResult, Bool};
 ghost use Rattle.vault_engine.specs.Stops.{NeverFails, Trusts};
 ghost use Rattle.vault_store.specs.Applied.{is_broken};
-ghost use Rattle.vault_engine.specs.Passing.{Passage, giving, passage, sending};
-ghost use Rattle.vault_listen.specs.Peers.{AreLinks, Event, IsClosedBy, IsLink, Link, events_of};
-ghost use Rattle.vault_listen.specs.Service.{Leaves};
-ghost use Rattle.vault_wire.specs.Watching.{inner_of};
-ghost use Rattle.vault_engine.specs.Asking.{Pair};
+ghost use Rattle.vault_engine.specs.Passing.{passage, sending};
+ghost use Rattle.vault_listen.specs.Peers.{IsClosedBy, ServesLinks, ServesOne};
+ghost use Rattle.vault_listen.specs.Service.{EndsServed, Leaves, WithPairs};
+ghost use Rattle.vault_wire.specs.Watching.{underneath};
 ghost use Rattle.vault_http.specs.Faults.{Tells, failures_of};
-ghost use Rattle.vault_http.specs.Served.{IsServed, IsStopped};
-ghost use Rattle.vault_listen.specs.Live.{AreGiven};
 ghost use Rattle.vault_store.specs.LookUps.{WasHonest};
 
 use crate::fault::ListenFault;
@@ -56,9 +53,9 @@ fn serve_link<P: Peers, K: Timekeeper, G: Rng, T: Tables>(
 ) -> Result<(), ListenFault>
     // the connection is served by the vault, or stopped, and closed; it is an Err exactly where that ended by
     // Store
-    ensures served { (x : Link) × IsLink (K.tells time.now) T.Tables x vault.old vault.new
-        × IsClosedBy P.Reader.remaining P.Writer.contents (P.tells peers.old) (P.tells peers.new) link x
-        × MatchResult result (λ _. x.ended ≢ Err ServeFault.Store) (λ _. x.ended ≡ Err ServeFault.Store) }
+    ensures served { ServesOne (K.tells time.now) T.Tables vault.old vault.new
+        (IsClosedBy P.Reader.remaining P.Writer.contents (P.tells peers.old) (P.tells peers.new) link)
+        result }
     // with Ok, whether the vault is broken stays as it was; with Err, the fault is Store and the vault is
     // broken
     ensures store { MatchResult result (λ _. is_broken vault.new ≡ is_broken vault.old)
@@ -106,10 +103,9 @@ pub fn serve_on<P: Peers, K: Timekeeper, G: Rng, T: Tables>(
 ) -> Result<(), ListenFault>
     // the connections that the peers tell of are served one after the other, and leave of the vault what the
     // result says
-    ensures served { (xs : List (Option Link)) × Leaves (K.tells time.now) connections xs
-        (passage T.Tables vault.old vault.new) result
-        × AreLinks (K.tells time.now) T.Tables xs vault.old vault.new
-        × ((log : List Event) → P.tells peers.old log → P.tells peers.new (log ++ events_of xs)) }
+    ensures served { ServesLinks (K.tells time.now) P.tells T.Tables
+        (peers.old, vault.old) (peers.new, vault.new)
+        (λ xs w. Leaves (K.tells time.now) connections xs w result) }
     // after Store the vault is broken
     ensures store { result ≡ Err ListenFault.Store → is_broken vault.new ≡ true }
     // after any other result, whether the vault is broken stays as it was
@@ -149,11 +145,9 @@ pub fn serve_connection<K: Timekeeper, G: Rng, R: Placed, W: Write, T: Tables>(
 ) -> Result<Served, ServeFault>
     // with at most 1000 pairs, each a moment told for it alone and a drawing, the messages are served, or the
     // service stopped
-    ensures answered { (pairs : List Pair) × (length pairs ≤ 1000)
-        × AreGiven (K.tells time.now) None None pairs × (let w : Passage = sending W.contents writer.old
-        writer.new (giving (λ ps. ps) [] pairs (passage T.Tables vault.old vault.new)) in MatchResult result
-        (IsServed (R.remaining (inner_of reader.old)) (R.remaining (inner_of reader.new)) w)
-        (IsStopped (R.remaining (inner_of reader.old)) (R.remaining (inner_of reader.new)) w)) }
+    ensures answered { WithPairs (K.tells time.now)
+        (sending W.contents writer.old writer.new (passage T.Tables vault.old vault.new))
+        (underneath R.remaining (EndsServed result) reader.old reader.new) }
     // a stop but Memory tells which of source, reader, writer and vault has failed; all else stays as it was
     ensures own_failure { (refused : Bool) × Tells result
         (failures_of false reader.old writer.old vault.old)

@@ -38,7 +38,7 @@ at_merchant V known done (Some merchant) n is = absurd (cc (done merchant, is))
 grant_refused : (caller m : List ℕ) (right : Right) (until : Option ℕ) (now : ℕ)
     → KeepsRefused (Grant caller m right until now)
 grant_refused caller m right until now V n is =
-    at_merchant V (granting V caller m right until now) (λ merchant. refl) (merchant_at V m) n is
+    at_merchant V (granting V (caller, (m, right)) until now) (λ merchant. refl) (merchant_at V m) n is
 
 withdrawal_refused : (caller m : List ℕ) (right : Right) (now : ℕ)
     → KeepsRefused (Withdraw caller m right now)

@@ -8,10 +8,13 @@ use Rattle.vault_core.specs.Vault.{Vault as Content}
 use Rattle.vault_core.specs.declared.command.Command.{Command}
 use Rattle.vault_listen.specs.Live.{Turns}
 use Rattle.vault_merchants.specs.ListedMerchants.{AreListed, Wanted}
+use Rattle.vault_changes.specs.Grants.{AreDone}
 use Rattle.vault_changes.specs.Moments.{is_merchant_ahead, is_merchant_behind}
 use Rattle.vault_changes.specs.Purges.{purges_of}
 use Rattle.vault_live.specs.Following.{AreSettled, Looks, Remembers}
+use Rattle.vault_live.specs.News.{IsSaidOf}
 use Rattle.vault_live.specs.Turns.{Asking}
+use Rattle.vault_live.specs.declared.news.News.{News}
 use Rattle.vault_live.specs.declared.sweeping.Due.{Due}
 use Rattle.vault_live.specs.declared.sweeping.Due.TheVariants.{Nothing, Ahead, Behind, Purges}
 use Rattle.vault_live.specs.declared.sweeping.Sweeper.{Sweeper}
@@ -45,6 +48,10 @@ IsDue m now Nothing V = Unit {0}
 IsDue m now Ahead V = is_merchant_ahead V m now ≡ true
 IsDue m now Behind V = is_merchant_behind V m now ≡ true
 IsDue m now (Purges tokens) V = IsNear V m now × (tokens.items ≡ take 100 (dead_tokens V m now))
+
+-- this is said of the first of some commands, where so many of them are done
+abbrev pub IsSaidOfFirst : News → ℕ → List Command → Content → Type 0
+IsSaidOfFirst news done cs V = AreDone done cs V → IsSaidOf news V (take done cs)
 
 -- The commands are the purges of the first dead tokens of a merchant of a list, by the caller that it names,
 -- at a moment that was told for them alone and is near the merchant's.

@@ -4,8 +4,12 @@ use Rattle.std.specs.Prelude.{Option, Some, None, Result, Ok, Err}
 use Rattle.vault_core.specs.Runs.{run}
 use Rattle.vault_core.specs.Vault.{Vault as Content}
 use Rattle.vault_core.specs.declared.command.Command.{Command}
-use Rattle.vault_engine.specs.Passing.{Passage, IsBefore, Keeps}
+use Rattle.vault_engine.specs.Passing.{Passage, IsBefore, Keeps, passage}
 use Rattle.vault_engine.specs.declared.stop.Stop.TheVariants as fault
+use Rattle.vault_store.specs.declared.tables.Tables.{Ghosts}
+use Rattle.vault_store.specs.declared.vault.Vault.{Vault}
+use Rattle.vault_wire.specs.Watching.{inner_of}
+use Rattle.vault_wire.specs.declared.watched.Watched.{Watched}
 use Rattle.vault_listen.specs.Live.{Turns}
 use Rattle.vault_listen.specs.Peers.{Event, Known, Link, closing}
 use Rattle.vault_listen.specs.Peers.Event.{Lost as Missed, Came}
@@ -125,6 +129,26 @@ TurnLeaves tells asks ts w (Err Source) = (came ts ≤ 1) × AllKept tells asks 
 TurnLeaves tells asks ts w (Err Store) = (came ts ≤ 1) × LastUndecided tells asks ts w
 TurnLeaves tells asks ts w (Err Memory) = ⊥
 TurnLeaves tells asks ts w (Err Accept) = (came ts ≡ 0) × AllKept tells asks ts w
+
+-- what one turn leaves, where this is what may be asked for by the moments that are told
+abbrev pub OneTurnLeaves : Turns → (Turns → Asking) → Result ℕ ListenFault → List Turn → Passage → Type 0
+OneTurnLeaves tells asks result ts w = TurnLeaves tells (asks tells) ts w result
+
+-- what a service of so many connections leaves, where this is what may be asked for by those moments
+abbrev pub TurnsLeave : Turns → (Turns → Asking) → ℕ → Result Unit ListenFault → List Turn → Passage → Type 0
+TurnsLeave tells asks most result ts w = Leaves tells (asks tells) most ts w result
+
+-- a network tells of some turns between the two, and this holds of them
+abbrev pub SomeTurns : {N : Type 0} → (N → List Event → Type 0) → N → N → (List Turn → Type 0) → Type 0
+SomeTurns told old new Holds = (turns : List Turn) × TellsTurns (told old) (told new) turns × Holds turns
+
+-- Turns came between the two, and this is what they leave of the vault; the peers tell of them, and the
+-- output took what was said in them.
+abbrev pub ServesTurns : {P T W : Type 0} → (P → List Event → Type 0) → Ghosts T → (W → Known)
+    → P × Vault T × Watched W → P × Vault T × Watched W → (List Turn → Passage → Type 0) → Type 0
+ServesTurns told g contents old new Leave = (ts : List Turn) × Leave ts (passage g old.1 new.1)
+    × TellsTurns (told old.0) (told new.0) ts
+    × AreSaid (contents (inner_of old.2)) (contents (inner_of new.2)) ts
 
 -- What is done between two connections: the first of the commands that were asked for are carried out, this
 -- is said of them, and the vault that they leave is kept; where the store failed, a crash decides on one more

@@ -1,7 +1,7 @@
 //! Kinds of lists that are followed.
 ghost use Rattle.std.specs.Prelude.{◌≡◌, All, IfErr, IfOk, MatchResult, false, length};
 ghost use Rattle.vault_store.specs.Applied.{is_broken};
-ghost use Rattle.vault_engine.specs.Passing.{IsBefore, Keeps, Passage, passage};
+ghost use Rattle.vault_engine.specs.Passing.{IsBefore, OfKept, passage};
 ghost use Rattle.vault_changes.specs.Carried.{IsCarriedOut};
 ghost use Rattle.vault_changes.specs.Failing.{BreaksByStore};
 ghost use Rattle.vault_changes.specs.Grants.{AreDone};
@@ -73,10 +73,8 @@ pub trait Kind {
         requires unbroken { is_broken vault.old ≡ false }
         // with Ok, on an honest disk, the rows ask for these by each vault that was held, or it refuses them
         // so; that one is kept
-        ensures found { let w : Passage = passage T.Tables vault.old vault.new in
-            IfOk result (λ it. (V : Content) → IsBefore w V
-            → MatchResult it (λ commands. commands.items ≡ wants now rows.now V) (refuses rows.now V)
-            × Keeps w V) }
+        ensures found { IfOk result (λ it. OfKept (passage T.Tables vault.old vault.new) (λ V.
+            MatchResult it (λ commands. commands.items ≡ wants now rows.now V) (refuses rows.now V))) }
         // every vault replies to each command by done or a refusal, and lives that it sets are in range
         ensures carried { IfOk result (λ it. IfOk it (λ commands. All IsCarriedOut commands.items)) }
         // on an honest disk they are proper, and one that is refused leaves the vault as it was

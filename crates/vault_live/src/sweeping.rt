@@ -3,17 +3,14 @@ ghost use Rattle.std.specs.Prelude.{◌≡◌, ◌≤◌, Err, IfErr, IfOk, List
 ghost use Rattle.vault_core.specs.Dead.{dead_tokens};
 ghost use Rattle.vault_core.specs.Keys.{Bytes};
 ghost use Rattle.vault_core.specs.Vault.{Vault as Content};
-ghost use Rattle.vault_core.specs.declared.command.Command.{Command};
 ghost use Rattle.vault_store.specs.Applied.{is_broken};
-ghost use Rattle.vault_engine.specs.Passing.{IsBefore, Keeps, Passage, passage};
+ghost use Rattle.vault_engine.specs.Passing.{OfKept, passage};
 ghost use Rattle.vault_listen.specs.declared.fault.ListenFault.TheVariants.{Store};
 ghost use Rattle.vault_changes.specs.Failing.{BreaksByStore};
-ghost use Rattle.vault_changes.specs.Grants.{AreDone};
 ghost use Rattle.vault_changes.specs.Purges.{purges_of};
 ghost use Rattle.vault_changes.specs.Settling.{FailsToRead};
 ghost use Rattle.vault_live.specs.Carrying.{news_in};
-ghost use Rattle.vault_live.specs.News.{IsSaidOf};
-ghost use Rattle.vault_live.specs.Sweeping.{AsksFirst, IsDue};
+ghost use Rattle.vault_live.specs.Sweeping.{AsksFirst, IsDue, IsSaidOfFirst};
 ghost use Rattle.vault_live.specs.Turns.{Attends};
 ghost use Rattle.vault_store.specs.LookUps.{WasHonest};
 
@@ -59,9 +56,8 @@ fn dead_first<T: Tables>(
 ) -> Result<Vec<Token>, Fault>
     requires unbroken { is_broken vault.old ≡ false }
     // with Ok, on an honest disk, these are the first of each vault that was held, and that one is kept
-    ensures found { let w : Passage = passage T.Tables vault.old vault.new in
-        IfOk result (λ tokens. (V : Content) → IsBefore w V
-        → (tokens.items ≡ take 100 (dead_tokens V merchant now)) × Keeps w V) }
+    ensures found { IfOk result (λ tokens. OfKept (passage T.Tables vault.old vault.new)
+        (λ V. tokens.items ≡ take 100 (dead_tokens V merchant now))) }
     ensures failed { IfErr result (FailsToRead (passage T.Tables vault.old vault.new)) }
     ensures broken { BreaksByStore vault.new result }
     ensures disk_honest { WasHonest T.Tables vault.old vault.new }
@@ -82,8 +78,8 @@ fn purges_due<T: Tables>(
 ) -> Result<Due, Fault>
     requires unbroken { is_broken vault.old ≡ false }
     // with Ok, on an honest disk, it is due by each vault that was held, and that one is kept
-    ensures due { let w : Passage = passage T.Tables vault.old vault.new in
-        IfOk result (λ due. (V : Content) → IsBefore w V → IsDue merchant now due V × Keeps w V) }
+    ensures due { IfOk result (λ due. OfKept (passage T.Tables vault.old vault.new)
+        (IsDue merchant now due)) }
     ensures failed { IfErr result (FailsToRead (passage T.Tables vault.old vault.new)) }
     ensures broken { BreaksByStore vault.new result }
     ensures disk_honest { WasHonest T.Tables vault.old vault.new }
@@ -105,8 +101,8 @@ fn purges_due<T: Tables>(
 fn purged(merchant: MerchantId, carried: Carried, now: Moment) -> Result<(News, bool), ListenFault>
     // this is said of the first of any caller's purges, where so many are done
     ensures said { IfOk result (λ it. (V : Content) (caller : Bytes) (tokens : List Bytes)
-        → let cs : List Command = purges_of caller merchant now tokens in carried.done ≤ length tokens
-        → AreDone carried.done cs V → IsSaidOf it.0 V (take carried.done cs)) }
+        → carried.done ≤ length tokens
+        → IsSaidOfFirst it.0 carried.done (purges_of caller merchant now tokens) V) }
     // where the store failed it is an Err
     ensures store { carried.end ≡ End.Store → result ≡ Err Store }
     // the fault is Store, and the store failed

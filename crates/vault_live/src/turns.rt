@@ -1,9 +1,7 @@
 //! Connections of peers, served one after the other by one vault, with what is asked for between them.
-ghost use Rattle.std.specs.Prelude.{◌≡◌, Err, List, false, true};
-ghost use Rattle.vault_wire.specs.Watching.{inner_of};
+ghost use Rattle.std.specs.Prelude.{◌≡◌, Err, false, true};
 ghost use Rattle.vault_store.specs.Applied.{is_broken};
-ghost use Rattle.vault_engine.specs.Passing.{passage};
-ghost use Rattle.vault_live.specs.Turns.{AreSaid, Leaves, TellsTurns, Turn, TurnLeaves};
+ghost use Rattle.vault_live.specs.Turns.{OneTurnLeaves, ServesTurns, TurnsLeave};
 ghost use Rattle.vault_store.specs.LookUps.{WasHonest};
 
 use crate::news::say;
@@ -41,10 +39,9 @@ fn serve_turn<P: Peers, O: Office, K: Timekeeper, G: Rng, W: Write, T: Tables>(
     requires remembers { O.remembers office.now kept.old }
     requires unbroken { is_broken vault.old ≡ false }
     // what came, from the vault that was held: what was asked for, which was said, and one connection at most
-    ensures turned { (ts : List Turn) × TurnLeaves (K.tells time.now) (O.asks office.now (K.tells time.now))
-        ts (passage T.Tables vault.old vault.new) result
-        × TellsTurns (P.tells peers.old) (P.tells peers.new) ts
-        × AreSaid (W.contents (inner_of output.old)) (W.contents (inner_of output.new)) ts }
+    ensures turned { ServesTurns P.tells T.Tables W.contents
+        (peers.old, vault.old, output.old) (peers.new, vault.new, output.new)
+        (OneTurnLeaves (K.tells time.now) (O.asks office.now) result) }
     // the vault is broken after Store only
     ensures broken { is_broken vault.new ≡ true → result ≡ Err ListenFault.Store }
     // where the office carries out nothing, it is broken after Store
@@ -94,10 +91,9 @@ pub fn serve_turns<P: Peers, O: Office, K: Timekeeper, G: Rng, W: Write, T: Tabl
     requires unbroken { is_broken vault.old ≡ false }
     // turns came one after the other, each from the vault that those before it leave, and what was done in
     // them was said; the result says what the last one leaves
-    ensures served { (ts : List Turn) × Leaves (K.tells time.now) (O.asks office.now (K.tells time.now))
-        connections ts (passage T.Tables vault.old vault.new) result
-        × TellsTurns (P.tells peers.old) (P.tells peers.new) ts
-        × AreSaid (W.contents (inner_of output.old)) (W.contents (inner_of output.new)) ts }
+    ensures served { ServesTurns P.tells T.Tables W.contents
+        (peers.old, vault.old, output.old) (peers.new, vault.new, output.new)
+        (TurnsLeave (K.tells time.now) (O.asks office.now) connections result) }
     // the vault is broken after Store only
     ensures broken { is_broken vault.new ≡ true → result ≡ Err ListenFault.Store }
     // where the office carries out nothing, it is broken after Store

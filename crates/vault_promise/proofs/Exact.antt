@@ -86,7 +86,7 @@ granted_one : (V : Content) (row : Row) (now : ℕ) (k : Key)
 granted_one V row now k = by_merchant (merchant_at V row.1)
   where
     outcome : Option Merchant → Outcome
-    outcome o = option_map_or (granting V row.0 row.1 row.2 row.3 now) o (plain_refusal V no_merchant)
+    outcome o = option_map_or (granting V (right_of row) row.3 now) o (plain_refusal V no_merchant)
 
     by_merchant : (o : Option Merchant) → (outcome o).reply ≡ answer.Done
         → fin.get (outcome o).after.rights k

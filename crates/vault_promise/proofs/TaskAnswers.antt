@@ -57,7 +57,8 @@ HasVerdict o = (v : Verdict) × (o.reply ≡ reply_of v)
 -- a command of the words is done or refused
 own_verdict : (V : Content) (c : Command) → IsOwn c → (v : Verdict) × (reply V c ≡ reply_of v)
 own_verdict V (Grant caller m right until now) own =
-    by_option HasVerdict (merchant_at V m) (granting V caller m right until now) (plain_refusal V no_merchant)
+    by_option HasVerdict (merchant_at V m) (granting V (caller, (m, right)) until now)
+    (plain_refusal V no_merchant)
     (λ _ _. (Ok tt, refl)) (λ _. (Err no_merchant, refl))
 own_verdict V (Withdraw caller m right now) own =
     by_option HasVerdict (merchant_at V m) (withdrawal V caller m right now) (plain_refusal V no_merchant)

@@ -3,7 +3,11 @@ use Rattle.std.specs.Prelude.{◌≡◌, Bool, true, false, Result, Ok, Err}
 use Rattle.vault_refusal.specs.declared.refusal.Refusal.{Refusal}
 use Rattle.vault_refusal.specs.declared.refusal.Refusal.TheVariants as refusal
 use Rattle.vault_core.specs.Sound.{Sound}
+use Rattle.vault_core.specs.Table.{after, reply}
 use Rattle.vault_core.specs.Vault.{Vault as Content}
+use Rattle.vault_core.specs.declared.command.Command.{Command}
+use Rattle.vault_core.specs.declared.reply.Reply.{Reply}
+use Rattle.vault_store.specs.declared.tables.Tables.{Ghosts}
 use Rattle.vault_store.specs.declared.tables.TablesFault.{TablesFault}
 use Rattle.vault_store.specs.declared.tables.TablesFault.TheVariants as tables
 use Rattle.vault_store.specs.declared.vault.Fault.{Fault}
@@ -21,6 +25,14 @@ is_broken vault = vault.broken
 -- the tables hold this vault, and it is sound
 abbrev pub Contains : {T : Type 0} → (T → Content → Type 0) → Vault T → Content → Type 0
 Contains holds vault V = holds vault.tables V × Sound V
+
+-- on a disk that is honest, this holds of each vault that was contained before
+abbrev pub OfContained : {T : Type 0} → Ghosts T → Vault T → Vault T → (Content → Type 0) → Type 0
+OfContained g old new Holds = g.is_honest new.tables → (V : Content) → Contains g.holds old V → Holds V
+
+-- the reply is that to the command, and the vault after it is contained so
+abbrev pub RepliesTo : Command → Content → (Content → Type 0) → Reply → Type 0
+RepliesTo c V contained it = (it ≡ reply V c) × contained (after V c)
 
 -- after 21 and 22 the vault is broken, after all else it isn't
 abbrev pub breaks : {X : Type 0} → Result X Fault → Bool

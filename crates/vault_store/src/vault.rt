@@ -5,10 +5,11 @@ ghost use Rattle.vault_store.specs.LookUps.{Fails, Lists, WasHonest};
 ghost use Rattle.vault_core.specs.Dead.{dead_tokens};
 ghost use Rattle.vault_core.specs.Proper.{HasLivesInRange};
 ghost use Rattle.vault_core.specs.Sound.{Sound};
-ghost use Rattle.vault_core.specs.Table.{after as after_lem, reply as reply_lem};
+ghost use Rattle.vault_core.specs.Table.{after as after_lem};
 ghost use Rattle.vault_core.specs.Vault.{Vault as Content};
 ghost use Rattle.vault_core.specs.Window.{row_at};
 ghost use Rattle.vault_store.specs.Added.{AddsNothing};
+ghost use Rattle.vault_store.specs.Applied.{RepliesTo};
 ghost use Rattle.vault_store.specs.Left.{LeavesBy};
 ghost use Rattle.vault_store.specs.Listed.{merchant_rows};
 ghost use Rattle.vault_store.specs.Reads.{FailsWith, IsAllowed, KeepsOnMemory};
@@ -60,7 +61,7 @@ pub struct Vault<T> {
 }
 
 impl<T: Tables> Vault<T> {
-    ghost use Rattle.vault_store.specs.Applied.{Contains, IsAllowedFault, is_broken};
+    ghost use Rattle.vault_store.specs.Applied.{Contains, IsAllowedFault, OfContained, is_broken};
     ghost use Rattle.vault_store.specs.Applied.{is_store, tables_fault, tables_of};
 
     /// The vault that tables hold. Nothing is promised of tables that hold no sound vault.
@@ -88,7 +89,7 @@ impl<T: Tables> Vault<T> {
         // command is contained
         ensures answered { T.is_honest (tables_of self.new)
             → IfOk result (λ reply. (V : Content) → Contains T.holds self.old V
-            → (reply ≡ reply_lem V c.now) × Contains T.holds self.new (after_lem V c.now)) }
+            → RepliesTo c.now V (Contains T.holds self.new) reply) }
         // after want of memory, each vault that was contained is contained still
         ensures memory { result ≡ Err Fault.Memory → (V : Content) → Contains T.holds self.old V
             → Contains T.holds self.new V }
@@ -100,9 +101,8 @@ impl<T: Tables> Vault<T> {
             → LeavesBy result (T.leaves (tables_of self.new)) V (after_lem V c.now) }
         // where the disk is honest, a command that adds nothing to an unbroken vault meets only faults that
         // its tables can have
-        ensures allowed { is_broken self.old ≡ false → T.is_honest (tables_of self.new)
-            → (V : Content) → Contains T.holds self.old V → AddsNothing V (after_lem V c.now)
-            → IsAllowedFault T.may_refuse T.may_fail result }
+        ensures allowed { is_broken self.old ≡ false → OfContained T.Tables self.old self.new (λ V.
+            AddsNothing V (after_lem V c.now) → IsAllowedFault T.may_refuse T.may_fail result) }
         ensures infallible { T.may_fail ≡ false → ¬ (result ≡ Err Fault.Store) }
     {
         if self.broken {
@@ -213,8 +213,7 @@ fn answer<T: Tables>(tables: &mut T, c: &Command) -> Result<Reply, TablesFault>
     // on an honest disk, Ok gives the reply of a held sound vault, and the vault after the command is held
     // and sound
     ensures told { T.is_honest tables.new → IfOk result (λ reply. (V : Content)
-        → T.holds tables.old V → Sound V
-        → (reply ≡ reply_lem V c.now) × T.holds tables.new (after_lem V c.now) × Sound (after_lem V c.now)) }
+        → T.holds tables.old V → Sound V → RepliesTo c.now V (λ W. T.holds tables.new W × Sound W) reply) }
     // after want of memory, each vault that was held is held still
     ensures kept { KeepsOnMemory result (T.holds tables.old) (T.holds tables.new) }
     // where the disk is honest, a crash leaves a sound vault that was held, before the command or after it

@@ -10,6 +10,10 @@ inner_of w = w.inner
 abbrev pub is_stopped : {T : Type 0} → Watched T → Bool
 is_stopped w = w.stopped
 
+-- this stands between what the reader or writer underneath shows before a call and after it
+abbrev pub underneath : {A X : Type 0} {C : Type 1} → (A → X) → (X → X → C) → Watched A → Watched A → C
+underneath shown Stands old new = Stands (shown (inner_of old)) (shown (inner_of new))
+
 -- a write of so many bytes failed: it took none, though there were some, or it was refused
 abbrev pub tells_failure : {E : Type 0} → ℕ → Result ℕ E → Bool
 tells_failure given (Ok taken) = taken == 0 && nat_lt 0 given
