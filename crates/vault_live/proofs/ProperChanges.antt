@@ -93,6 +93,7 @@ rows_proper now moment (row ∷ rows) each =
     let it : IsProperRow row = each.0 in
     ((it.0, it.1, it.2, moment), rows_proper now moment rows each.1)
 
+-- grants of some of the rows are proper where those of all are
 some_proper : (now : ℕ) (held : List Held) (rows : List Row) → AllProper (grants_at now rows)
     → AllProper (grants_at now (missing_rows rows held))
 some_proper now held [] proper = tt
@@ -104,6 +105,7 @@ some_proper now held (row ∷ rows) proper =
       | false ↦ rest
     ]
 
+-- a right has names
 abbrev IsNamed : Held → Type 0
 IsNamed it = IsName it.0.0 × IsName it.0.1.0
 
@@ -127,13 +129,18 @@ withdrawn_proper now rows moment (it ∷ held) named =
       | false ↦ rest
     ]
 
+-- what makes a sound vault's rights those of a list is proper, where grants of the list's rows are
+pub settled_proper : (now : ℕ) (rows : List Row) (V : Content) → Sound V → IsMoment now
+    → AllProper (grants_at now rows) → AllProper (rights_changes now rows V)
+settled_proper now rows V sound moment proper =
+    proper_append (grants_at now (missing_rows rows (rights_of V)))
+    (withdrawals_at now (surplus_rights rows (rights_of V)))
+    (some_proper now (rights_of V) rows proper)
+    (withdrawn_proper now rows moment (rights_of V) (named_in V sound))
+
 -- the changes of a sound vault, by the rows of a good text, at a moment
 pub changes_proper : (text : List ℕ) (rows : List Row) (now : ℕ) (V : Content) → AreRowsIn text rows
     → IsMoment now → Sound V → AllProper (rights_changes now rows V)
 changes_proper text rows now V (document, is, proper, list) moment sound =
-    let given : AllProper (grants_at now rows) = rows_proper now moment rows (all-contained IsProperRow rows
-    (λ row inside. row_proper document proper row ((list.1 row).0 inside))) in
-    proper_append (grants_at now (missing_rows rows (rights_of V)))
-    (withdrawals_at now (surplus_rights rows (rights_of V)))
-    (some_proper now (rights_of V) rows given)
-    (withdrawn_proper now rows moment (rights_of V) (named_in V sound))
+    settled_proper now rows V sound moment (rows_proper now moment rows (all-contained IsProperRow rows
+    (λ row inside. row_proper document proper row ((list.1 row).0 inside))))

@@ -1,5 +1,6 @@
 -- What ordered maps over the rows have at each key.
-use Rattle.std.specs.Prelude.{◌≡◌, ℕ, pos, ◌&&◌, Bool, List, Option, bytes_eq, string_bytes}
+use Rattle.std.specs.Prelude.{◌≡◌, ℕ, pos, ◌&&◌, Bool, List, Option, bytes_eq, option_map}
+use Rattle.std.specs.Prelude.{string_bytes}
 use Rattle.std.specs.Borrow.{Bor}
 use Rattle.std.specs.BTreeMap.{BTreeMap, get_by}
 use Rattle.std.specs.BTreeSet.{BTreeSet, contains_by}
@@ -8,6 +9,7 @@ use Rattle.std.specs.Option.{option_copied}
 use Rattle.std.specs.Ordering.{int_eq, nat_cmp, ordering_then}
 use Rattle.vault_core.specs.Keys.{Bytes, bytes_cmp}
 use Rattle.vault_rules.specs.Lookups.{merchant_of}
+use Rattle.vault_rules.specs.Packed.{key_number}
 use Rattle.vault_rules.specs.declared.rows.RawMerchant.{RawMerchant}
 use Rattle.vault_rules.specs.declared.rows.RawCount.{RawCount}
 
@@ -42,3 +44,7 @@ has_pair keys number text =
 -- a number and a text, as they lie in memory
 abbrev pub seen_key : ℕ × Text → ℕ × Bytes
 seen_key key = (key.0, key.1.now)
+
+-- what lies in memory is the number and the name of this merchant and number, where there are any
+abbrev pub IsSeenKey : Option (ℕ × Text) → Option (Bytes × Bytes) → Type 0
+IsSeenKey seen key = option_map seen_key seen ≡ option_map key_number key

@@ -20,11 +20,16 @@ pub record KeptCard : Type 0 where
 abbrev pub short_text : Bytes → Bytes
 short_text text = if nat_lt (length text) 20 then text else []
 
+-- the merchant of a card row, where it exists
+abbrev pub card_merchant : List RawMerchant → RawCard → Option RawMerchant
+card_merchant merchants c = merchant_of merchants (string_bytes c.merchant)
+
+-- what the rules need of a card row
 abbrev pub kept_card : List RawMerchant → RawCard → KeptCard
 kept_card merchants c = record {
   id = c.id;
   uses = c.uses;
-  merchant = merchant_of merchants (string_bytes c.merchant);
+  merchant = card_merchant merchants c;
   number = short_text (string_bytes c.number);
 }
 

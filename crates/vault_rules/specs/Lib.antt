@@ -6,6 +6,7 @@ pub mod Index
 pub mod Kept
 pub mod Lookups
 pub mod MerchantRows
+pub mod NextRow
 pub mod Packed
 pub mod RisingNumbers
 pub mod Rules

@@ -37,6 +37,10 @@ abbrev pub entry_of : List RawEntry → Bytes → Bytes → Option RawEntry
 entry_of entries name token =
     find (λ e. bytes_eq (string_bytes e.merchant) name && bytes_eq (string_bytes e.token) token) entries
 
+-- the usage of a merchant's token
+abbrev pub token_usage : List RawEntry → Bytes → Bytes → Option ℤ
+token_usage entries name token = option_map (λ (e : RawEntry). e.usage) (entry_of entries name token)
+
 -- the card row of an id
 abbrev pub card_of : List RawCard → ℤ → Option RawCard
 card_of cards id = find (λ c. int_eq c.id id) cards

@@ -1,13 +1,12 @@
 -- What is known of rows that came one after the other.
-use Rattle.std.specs.Prelude.{◌≡◌, ℕ, ℤ, true, List, length, map, Some, option_map, slice_index_or}
-use Rattle.std.specs.Prelude.{unwrap_or}
+use Rattle.std.specs.Prelude.{◌≡◌, ℕ, ℤ, true, List, length, map, Some, slice_index_or, unwrap_or}
 use Rattle.std.specs.List.{filter_map, list_all, list_any}
 use Rattle.vault_core.specs.Keys.{Bytes}
 use Rattle.vault_rules.specs.AllRows.{Rows}
 use Rattle.vault_rules.specs.HeldRows.{HoldCards}
 use Rattle.vault_rules.specs.Index.{at_pair, at_text, has_pair}
 use Rattle.vault_rules.specs.Kept.{place_of}
-use Rattle.vault_rules.specs.Lookups.{entry_of, held_by, is_known, used_by}
+use Rattle.vault_rules.specs.Lookups.{held_by, is_known, token_usage, used_by}
 use Rattle.vault_rules.specs.Packed.{packed}
 use Rattle.vault_rules.specs.RisingNumbers.{IsRisingOver}
 use Rattle.vault_rules.specs.Rules.{alike, are_distinct, at_moments, has_card, has_number, has_token}
@@ -51,7 +50,12 @@ pub record HoldTokens (merchants : List RawMerchant) (it : Tokens) (entries : Li
       → unwrap_or (at_text it.held name) 0 ≡ held_by entries name
   pub usages : list_all (has_token merchants) entries ≡ true → (name token : Bytes)
       → is_known merchants name ≡ true → is_token token ≡ true → at_pair it.usages (packed token) name
-      ≡ option_map (λ (e : RawEntry). e.usage) (entry_of entries name token)
+      ≡ token_usage entries name token
+
+-- this is so of whatever entries came, at whatever merchants, where each has one of these and a token
+abbrev pub WhereTokens : Tokens → (List RawMerchant → List RawEntry → Type 0) → Type 0
+WhereTokens it Is = (merchants : List RawMerchant) (entries : List RawEntry)
+    → HoldTokens merchants it entries → list_all (has_token merchants) entries ≡ true → Is merchants entries
 
 -- these entries came behind these cards
 pub record HasEntries (it : Entries) (cards : List RawCard) (entries : List RawEntry) : Type 0 where
@@ -64,12 +68,17 @@ pub record HasEntries (it : Entries) (cards : List RawCard) (entries : List RawE
   pub used : (id : ℤ) (place : ℕ) → place_of cards id ≡ Some place
       → slice_index_or it.used.items place 0 ≡ used_by entries id
 
+-- this is so of whatever entries came, and of the cards that they came behind
+abbrev pub WhereHeld : Entries → (List RawCard → List RawEntry → Type 0) → Type 0
+WhereHeld it Is = (cards : List RawCard) (entries : List RawEntry) → HasEntries it cards entries
+    → Is cards entries
+
 -- these records came, and whether all keep their rule, where each entry has a merchant and a token
 pub record HasRecords (it : Records) (records : List RawRecord) : Type 0 where
   pub many : it.many ≡ length records
   pub rowids : IsRisingOver it.rowids (map (λ r. r.rowid) records)
-  pub kept : (cards : List RawCard) (entries : List RawEntry) → HasEntries it.entries cards entries
-      → it.entries.rules.tokens ≡ true → it.kept ≡ list_all (is_record entries) records
+  pub kept : WhereHeld it.entries (λ cards entries.
+      it.entries.rules.tokens ≡ true → it.kept ≡ list_all (is_record entries) records)
 
 -- the rows of all tables came
 pub record HasRows (rows : Rows) (versions_read : List RawVersion) (replaced_read : ℕ) (it : Records)

@@ -1,11 +1,12 @@
 //! What the rules need of card rows, which come one after the other.
-ghost use Rattle.std.specs.Prelude.{◌≡◌, ◌+◌, List, [], ◌∷◌, ◌++◌, OnOk, length, option_map};
-ghost use Rattle.std.specs.Prelude.{map, position, slice_get, string_bytes, true};
+ghost use Rattle.std.specs.Prelude.{◌≡◌, ◌+◌, List, [], OnOk, length, option_map};
+ghost use Rattle.std.specs.Prelude.{map, position, slice_get, true};
 ghost use Rattle.std.specs.Option.{option_copied};
 ghost use Rattle.std.specs.Ordering.{int_eq};
 ghost use Rattle.vault_rules.specs.Kept as kept;
-ghost use Rattle.vault_rules.specs.Kept.{place_of};
-ghost use Rattle.vault_rules.specs.Lookups.{card_of, merchant_of};
+ghost use Rattle.vault_rules.specs.Kept.{card_merchant, place_of};
+ghost use Rattle.vault_rules.specs.Lookups.{card_of};
+ghost use Rattle.vault_rules.specs.NextRow.{TakesOneMore};
 ghost use Rattle.vault_rules.specs.RisingNumbers.{are_rising};
 ghost use Rattle.vault_rules.specs.declared.rows.RawCard.{RawCard as CardRow};
 ghost use Rattle.vault_rules.specs.declared.rows.RawMerchant.{RawMerchant as MerchantRow};
@@ -90,9 +91,9 @@ impl<'a> Cards<'a> {
         // with Ok, one more came
         ensures counted { OnOk result (length self.new.kept.items ≡ length self.old.kept.items + 1) }
         // with Ok, where the merchant is the row's own, the rows that are kept are those before and this one
-        ensures taken { OnOk result ((merchants : List MerchantRow) (raws : List CardRow)
-            → option_copied merchant.entry ≡ merchant_of merchants (string_bytes card.now.merchant)
-            → HoldCards merchants self.old raws → HoldCards merchants self.new (raws ++ card.now ∷ [])) }
+        ensures taken { OnOk result ((merchants : List MerchantRow)
+            → option_copied merchant.entry ≡ card_merchant merchants card.now
+            → TakesOneMore (HoldCards merchants) self.old self.new card.now) }
     {
         let kept = Card {
             id: card.id,

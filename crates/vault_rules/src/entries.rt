@@ -1,10 +1,10 @@
 //! What the rules need of entries, which come one after the other.
-ghost use Rattle.std.specs.Prelude.{◌≡◌, ◌+◌, ◌<◌, ◌^◌, true, List, [], ◌∷◌, ◌++◌, OnOk, is_some};
-ghost use Rattle.std.specs.Prelude.{option_and_then, option_map};
+ghost use Rattle.std.specs.Prelude.{◌≡◌, ◌+◌, ◌<◌, ◌^◌, true, List, [], OnOk, is_some};
+ghost use Rattle.std.specs.Prelude.{option_and_then};
 ghost use Rattle.vault_rules.specs.Kept.{place_of};
-ghost use Rattle.vault_rules.specs.Lookups.{card_of, entry_of, held_by, is_known, used_by};
+ghost use Rattle.vault_rules.specs.Lookups.{card_of, held_by, is_known, token_usage, used_by};
+ghost use Rattle.vault_rules.specs.NextRow.{TakesOneMore};
 ghost use Rattle.vault_rules.specs.declared.rows.RawCard.{RawCard as CardRow};
-ghost use Rattle.vault_rules.specs.declared.rows.RawEntry.{RawEntry as EntryRow};
 
 mod tokens;
 
@@ -32,7 +32,7 @@ pub struct Entries<'a> {
 
 impl<'a> Entries<'a> {
     ghost use Rattle.vault_rules.specs.HeldRows.{HoldCards};
-    ghost use Rattle.vault_rules.specs.Seen.{HasEntries};
+    ghost use Rattle.vault_rules.specs.Seen.{HasEntries, WhereHeld};
 
     /// None came yet.
     pub fn new(alloc: Global, index: Index<'a>) -> Entries<'a>
@@ -73,8 +73,8 @@ impl<'a> Entries<'a> {
         // with Ok, fewer than 2^64 came
         ensures few { OnOk result (self.new.many < 2 ^ 64) }
         // with Ok, those before and this one came, behind the same cards
-        ensures taken { OnOk result ((cards : List CardRow) (raws : List EntryRow)
-            → HasEntries self.old cards raws → HasEntries self.new cards (raws ++ entry.now ∷ [])) }
+        ensures taken { OnOk result ((cards : List CardRow)
+            → TakesOneMore (λ it. HasEntries it cards) self.old self.new entry.now) }
     {
         let found = self.index.found(entry);
         self.many = one_more(self.many)?;
@@ -111,9 +111,9 @@ impl<'a> Entries<'a> {
 
     /// How many entries a merchant that exists has.
     pub(crate) fn held(&self, merchant: &str) -> usize
-        ensures { (cards : List CardRow) (raws : List EntryRow) → HasEntries self.now cards raws
-            → is_known self.now.index.merchants.now merchant.now ≡ true
-            → result ≡ held_by raws merchant.now }
+        ensures { WhereHeld self.now (λ cards raws.
+            is_known self.now.index.merchants.now merchant.now ≡ true
+            → result ≡ held_by raws merchant.now) }
     {
         self.tokens.held(merchant)
     }
@@ -121,8 +121,8 @@ impl<'a> Entries<'a> {
     /// How many entries point at the card row of an id.
     pub(crate) fn used(&self, id: i64) -> usize
         // of an id that has a card row, it is the number of entries that point at it
-        ensures { (cards : List CardRow) (raws : List EntryRow) → HasEntries self.now cards raws
-            → is_some (card_of cards id) ≡ true → result ≡ used_by raws id }
+        ensures { WhereHeld self.now (λ cards raws.
+            is_some (card_of cards id) ≡ true → result ≡ used_by raws id) }
     {
         match self.index.cards.place(id) {
             Some(place) => count_of(&self.used, place),
@@ -132,9 +132,8 @@ impl<'a> Entries<'a> {
 
     /// The usage of a merchant's token, where each entry has a merchant and a token.
     pub(crate) fn usage(&self, merchant: &str, token: &str) -> Option<i64>
-        ensures { (cards : List CardRow) (raws : List EntryRow) → HasEntries self.now cards raws
-            → self.now.rules.tokens ≡ true
-            → result ≡ option_map (λ (e : EntryRow). e.usage) (entry_of raws merchant.now token.now) }
+        ensures { WhereHeld self.now (λ cards raws.
+            self.now.rules.tokens ≡ true → result ≡ token_usage raws merchant.now token.now) }
     {
         match self.index.merchant(merchant) {
             Some(merchant) => self.tokens.usage(merchant, token.as_bytes()),

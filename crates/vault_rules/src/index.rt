@@ -1,9 +1,10 @@
 //! Ordered maps over the rows that entries name.
-ghost use Rattle.std.specs.Prelude.{◌≡◌, ◌+◌, List, [], ◌∷◌, ◌++◌, IfOk, OnOk, length};
+ghost use Rattle.std.specs.Prelude.{◌≡◌, ◌+◌, List, [], IfOk, OnOk, length};
 ghost use Rattle.std.specs.Option.{option_copied};
 ghost use Rattle.vault_rules.specs.Index.{IsIndexOf, made_of};
 ghost use Rattle.vault_rules.specs.declared.rows.RawCard.{RawCard as CardRow};
 ghost use Rattle.vault_rules.specs.Lookups as lookups;
+ghost use Rattle.vault_rules.specs.NextRow.{TakesOneMore};
 
 pub(crate) mod counted;
 pub(crate) mod first;
@@ -67,9 +68,8 @@ impl<'a> Index<'a> {
         ensures counted { OnOk result
             (length self.new.cards.kept.items ≡ length self.old.cards.kept.items + 1) }
         // with Ok, the cards held are those before and this one
-        ensures taken { OnOk result ((raws : List CardRow)
-            → HoldCards self.old.merchants.now self.old.cards raws
-            → HoldCards self.new.merchants.now self.new.cards (raws ++ card.now ∷ [])) }
+        ensures taken { OnOk result (TakesOneMore (λ index. HoldCards index.merchants.now index.cards)
+            self.old self.new card.now) }
     {
         let merchant = self.merchant(card.merchant.as_str());
         self.cards.take(merchant, card)

@@ -1,6 +1,6 @@
 //! What the rules need of records, which come one after the other.
-ghost use Rattle.std.specs.Prelude.{◌≡◌, ◌+◌, ◌<◌, ◌^◌, List, [], ◌∷◌, ◌++◌, OnOk};
-ghost use Rattle.vault_rules.specs.declared.rows.RawRecord.{RawRecord as RecordRow};
+ghost use Rattle.std.specs.Prelude.{◌≡◌, ◌+◌, ◌<◌, ◌^◌, [], OnOk};
+ghost use Rattle.vault_rules.specs.NextRow.{TakesOneMore};
 
 use crate::entries::Entries;
 use crate::index::counted::one_more;
@@ -47,8 +47,7 @@ impl<'a> Records<'a> {
         // with Ok, fewer than 2^64 came
         ensures few { OnOk result (self.new.many < 2 ^ 64) }
         // with Ok, those before and this one came
-        ensures taken { OnOk result ((raws : List RecordRow) → HasRecords self.old raws
-            → HasRecords self.new (raws ++ record.now ∷ [])) }
+        ensures taken { OnOk result (TakesOneMore HasRecords self.old self.new record.now) }
     {
         self.many = one_more(self.many)?;
         self.rowids.take(record.rowid);

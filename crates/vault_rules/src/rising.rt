@@ -1,5 +1,6 @@
 //! Whether numbers that come one after the other rise.
-ghost use Rattle.std.specs.Prelude.{◌≡◌, ℤ, List, [], ◌∷◌, ◌++◌};
+ghost use Rattle.std.specs.Prelude.{◌≡◌, []};
+ghost use Rattle.vault_rules.specs.NextRow.{TakesOneMore};
 
 /// Whether each number that came is above the one before it.
 #[derive(Clone, Copy, Drop)]
@@ -23,8 +24,7 @@ impl Rising {
 
     /// Takes the next number.
     pub(crate) fn take(&mut self, number: i64)
-        ensures { (numbers : List ℤ) → IsRisingOver self.old numbers
-            → IsRisingOver self.new (numbers ++ number ∷ []) }
+        ensures { TakesOneMore IsRisingOver self.old self.new number }
     {
         if let Some(last) = self.last {
             if number <= last {

@@ -1,13 +1,10 @@
 //! The tokens of merchants that exist.
-ghost use Rattle.std.specs.Prelude.{◌≡◌, true, List, [], ◌∷◌, ◌++◌, OnOk, option_map, string_bytes};
+ghost use Rattle.std.specs.Prelude.{◌≡◌, true, List, [], OnOk, string_bytes};
 ghost use Rattle.std.specs.Prelude.{unwrap_or};
-ghost use Rattle.std.specs.List.{list_all};
-ghost use Rattle.vault_rules.specs.Found.{IsFoundIn};
+ghost use Rattle.vault_rules.specs.Found.{WhereFound};
 ghost use Rattle.vault_rules.specs.Index.{at_text};
-ghost use Rattle.vault_rules.specs.Lookups.{entry_of, is_known};
-ghost use Rattle.vault_rules.specs.Rules.{has_token};
-ghost use Rattle.vault_rules.specs.declared.rows.RawCard.{RawCard as CardRow};
-ghost use Rattle.vault_rules.specs.declared.rows.RawEntry.{RawEntry as EntryRow};
+ghost use Rattle.vault_rules.specs.Lookups.{is_known, token_usage};
+ghost use Rattle.vault_rules.specs.NextRow.{TakesOneMore};
 ghost use Rattle.vault_rules.specs.declared.rows.RawMerchant.{RawMerchant as MerchantRow};
 
 use crate::index::counted::count_one;
@@ -27,7 +24,7 @@ pub struct Tokens<'a> {
 }
 
 impl<'a> Tokens<'a> {
-    ghost use Rattle.vault_rules.specs.Seen.{HoldTokens};
+    ghost use Rattle.vault_rules.specs.Seen.{HoldTokens, WhereTokens};
 
     /// None came yet.
     pub(crate) fn new(alloc: Global) -> Tokens<'a>
@@ -42,9 +39,8 @@ impl<'a> Tokens<'a> {
     /// Takes the next entry. Only memory can fail.
     pub(crate) fn take(&mut self, found: &Found<'a, '_>) -> Result<(), AllocError>
         // with Ok, of an entry with its own merchant, the entries held are those before and this one
-        ensures { OnOk result ((merchants : List MerchantRow) (cards : List CardRow) (raws : List EntryRow)
-            → IsFoundIn merchants cards found.now → HoldTokens merchants self.old raws
-            → HoldTokens merchants self.new (raws ++ found.now.entry.now ∷ [])) }
+        ensures { OnOk result (WhereFound found.now (λ merchants cards.
+            TakesOneMore (HoldTokens merchants) self.old self.new found.now.entry.now)) }
     {
         let Some(merchant) = found.merchant else {
             return Ok(());
@@ -69,11 +65,9 @@ impl<'a> Tokens<'a> {
     pub(crate) fn usage(&self, merchant: &'a RawMerchant, token: &[u8]) -> Option<i64>
         // it is the usage of the first entry of the token, where that merchant exists and each entry has a
         // merchant and a token
-        ensures { (merchants : List MerchantRow) (raws : List EntryRow) → HoldTokens merchants self.now raws
-            → is_known merchants (string_bytes merchant.now.name) ≡ true
-            → list_all (has_token merchants) raws ≡ true → result
-            ≡ option_map (λ (e : EntryRow). e.usage)
-            (entry_of raws (string_bytes merchant.now.name) token.now) }
+        ensures { WhereTokens self.now (λ merchants raws.
+            is_known merchants (string_bytes merchant.now.name) ≡ true
+            → result ≡ token_usage raws (string_bytes merchant.now.name) token.now) }
     {
         if !is_token(token) {
             return None;

@@ -1,10 +1,8 @@
 //! The rules of records and of rights.
-ghost use Rattle.std.specs.Prelude.{◌≡◌, List, true};
+ghost use Rattle.std.specs.Prelude.{◌≡◌, true};
 ghost use Rattle.std.specs.List.{list_all};
 ghost use Rattle.vault_rules.specs.Rules as rules;
-ghost use Rattle.vault_rules.specs.Seen.{HasEntries};
-ghost use Rattle.vault_rules.specs.declared.rows.RawCard.{RawCard as CardRow};
-ghost use Rattle.vault_rules.specs.declared.rows.RawEntry.{RawEntry as EntryRow};
+ghost use Rattle.vault_rules.specs.Seen.{WhereHeld};
 
 use crate::entries::Entries;
 use crate::index::Index;
@@ -14,9 +12,8 @@ use crate::texts::is_name;
 
 /// Whether a record keeps rule 11, where each entry has a merchant and a token.
 pub(crate) fn is_record(entries: &Entries, r: &RawRecord) -> bool
-    ensures { (cards : List CardRow) (raws : List EntryRow)
-        → HasEntries entries.now cards raws → entries.now.rules.tokens ≡ true
-        → result ≡ rules.is_record raws r.now }
+    ensures { WhereHeld entries.now (λ cards raws.
+        entries.now.rules.tokens ≡ true → result ≡ rules.is_record raws r.now) }
 {
     is_name(r.caller.as_bytes()) && 1 <= r.request && has_usage(entries, r)
 }
@@ -24,9 +21,8 @@ pub(crate) fn is_record(entries: &Entries, r: &RawRecord) -> bool
 /// Whether the entry of a record exists and has its usage.
 fn has_usage(entries: &Entries, r: &RawRecord) -> bool
     // it is so of the entries that came, where each of them has a merchant and a token
-    ensures { (cards : List CardRow) (raws : List EntryRow)
-        → HasEntries entries.now cards raws → entries.now.rules.tokens ≡ true
-        → result ≡ rules.has_usage raws r.now }
+    ensures { WhereHeld entries.now (λ cards raws.
+        entries.now.rules.tokens ≡ true → result ≡ rules.has_usage raws r.now) }
 {
     entries.usage(r.merchant.as_str(), r.token.as_str()) == Some(r.usage)
 }

@@ -1,14 +1,12 @@
 //! The rules of counts.
-ghost use Rattle.std.specs.Prelude.{◌≡◌, ◌&&◌, List, nat_lt, pos, string_bytes, true};
+ghost use Rattle.std.specs.Prelude.{◌≡◌, ◌&&◌, nat_lt, pos, string_bytes, true};
 ghost use Rattle.std.specs.List.{list_all};
 ghost use Rattle.std.specs.Option.{option_copied, option_map_or};
 ghost use Rattle.std.specs.Ordering.{int_eq};
 ghost use Rattle.vault_rules.specs.Lookups.{is_known};
 ghost use Rattle.vault_rules.specs.Rules as rules;
-ghost use Rattle.vault_rules.specs.Seen.{HasEntries};
+ghost use Rattle.vault_rules.specs.Seen.{WhereHeld};
 ghost use Rattle.vault_rules.specs.declared.rows.RawCount.{RawCount as CountRow};
-ghost use Rattle.vault_rules.specs.declared.rows.RawCard.{RawCard as CardRow};
-ghost use Rattle.vault_rules.specs.declared.rows.RawEntry.{RawEntry as EntryRow};
 
 use crate::entries::Entries;
 use crate::index::Index;
@@ -33,10 +31,9 @@ fn is_count(index: &Index, c: &RawCount) -> bool
 
 /// Rule 10: each merchant's count of tokens made is the number of its entries, at most 1000000.
 pub fn are_counted(entries: &Entries) -> bool
-    ensures { (cards : List CardRow) (raws : List EntryRow)
-        → HasEntries entries.now cards raws → result
+    ensures { WhereHeld entries.now (λ cards raws. result
         ≡ list_all (rules.is_counted entries.now.index.counts.now raws)
-        entries.now.index.merchants.now }
+        entries.now.index.merchants.now) }
 {
     for merchant in entries.index.merchants {
         if !is_counted(entries, merchant) {
@@ -49,10 +46,9 @@ pub fn are_counted(entries: &Entries) -> bool
 /// Whether a merchant keeps the rule of its count.
 fn is_counted(entries: &Entries, m: &RawMerchant) -> bool
     // it is so of a merchant that exists
-    ensures { (cards : List CardRow) (raws : List EntryRow)
-        → HasEntries entries.now cards raws
-        → is_known entries.now.index.merchants.now (string_bytes m.now.name) ≡ true
-        → result ≡ rules.is_counted entries.now.index.counts.now raws m.now }
+    ensures { WhereHeld entries.now (λ cards raws.
+        is_known entries.now.index.merchants.now (string_bytes m.now.name) ≡ true
+        → result ≡ rules.is_counted entries.now.index.counts.now raws m.now) }
 {
     let name = m.name.as_str();
     are_as_many(entries.held(name), entries.index.made(name))

@@ -1,10 +1,10 @@
 //! The rules of entries, of one after the other.
-ghost use Rattle.std.specs.Prelude.{◌≡◌, pos, ◌+ℤ◌, ◌&&◌, true, List, [], ◌∷◌, ◌++◌};
+ghost use Rattle.std.specs.Prelude.{◌≡◌, pos, ◌+ℤ◌, ◌&&◌, true, List, []};
 ghost use Rattle.std.specs.Option.{option_map_or};
-ghost use Rattle.vault_rules.specs.Found.{IsFoundIn, WhereFound};
+ghost use Rattle.vault_rules.specs.Found.{WhereFound};
+ghost use Rattle.vault_rules.specs.NextRow.{TakesOneMore};
 ghost use Rattle.vault_rules.specs.Rules as rules;
 ghost use Rattle.vault_rules.specs.declared.rows.RawCard.{RawCard as CardRow};
-ghost use Rattle.vault_rules.specs.declared.rows.RawEntry.{RawEntry as EntryRow};
 ghost use Rattle.vault_rules.specs.declared.rows.RawMerchant.{RawMerchant as MerchantRow};
 
 use crate::index::found::Found;
@@ -49,9 +49,8 @@ impl EntryRules {
 
     /// Takes the next entry.
     pub(crate) fn take(&mut self, found: &Found)
-        ensures { (merchants : List MerchantRow) (cards : List CardRow) (raws : List EntryRow)
-            → IsFoundIn merchants cards found.now → KeepRules merchants cards self.old raws
-            → KeepRules merchants cards self.new (raws ++ found.now.entry.now ∷ []) }
+        ensures { WhereFound found.now (λ merchants cards.
+            TakesOneMore (KeepRules merchants cards) self.old self.new found.now.entry.now) }
     {
         self.tokens = self.tokens && has_token(found);
         self.numbers = self.numbers && has_number(found);

@@ -1,11 +1,10 @@
 //! The rule of live multi-use entries.
-ghost use Rattle.std.specs.Prelude.{◌≡◌, List, [], ◌∷◌, ◌++◌, OnOk, option_map, true};
-ghost use Rattle.vault_rules.specs.Found.{IsFoundIn, WhereFound};
-ghost use Rattle.vault_rules.specs.Index.{seen_key};
-ghost use Rattle.vault_rules.specs.Packed.{key_number};
+ghost use Rattle.std.specs.Prelude.{◌≡◌, List, [], OnOk, true};
+ghost use Rattle.vault_rules.specs.Found.{WhereFound};
+ghost use Rattle.vault_rules.specs.Index.{IsSeenKey};
+ghost use Rattle.vault_rules.specs.NextRow.{TakesOneMore};
 ghost use Rattle.vault_rules.specs.Rules as rules;
 ghost use Rattle.vault_rules.specs.declared.rows.RawCard.{RawCard as CardRow};
-ghost use Rattle.vault_rules.specs.declared.rows.RawEntry.{RawEntry as EntryRow};
 ghost use Rattle.vault_rules.specs.declared.rows.RawMerchant.{RawMerchant as MerchantRow};
 
 use crate::index::found::Found;
@@ -41,9 +40,8 @@ impl<'a> Live<'a> {
 
     /// Takes the next entry. Only memory can fail.
     pub(crate) fn take(&mut self, found: &Found<'a, '_>) -> Result<(), AllocError>
-        ensures { OnOk result ((merchants : List MerchantRow) (cards : List CardRow) (raws : List EntryRow)
-            → IsFoundIn merchants cards found.now → AreLive merchants cards self.old raws
-            → AreLive merchants cards self.new (raws ++ found.now.entry.now ∷ [])) }
+        ensures { OnOk result (WhereFound found.now (λ merchants cards.
+            TakesOneMore (AreLive merchants cards) self.old self.new found.now.entry.now)) }
     {
         if !self.alone {
             return Ok(());
@@ -60,8 +58,7 @@ impl<'a> Live<'a> {
 fn live_key<'a>(found: &Found<'a, '_>) -> Option<(u128, &'a str)>
     ensures { WhereFound found.now (λ merchants cards.
         rules.has_number cards found.now.entry.now ≡ true
-        → option_map seen_key result
-        ≡ option_map key_number (rules.live_key merchants cards found.now.entry.now)) }
+        → IsSeenKey result (rules.live_key merchants cards found.now.entry.now)) }
 {
     let merchant = found.merchant?;
     let Some(card) = &found.card else {

@@ -9,7 +9,7 @@ use Rattle.vault_rules.specs.RisingNumbers.{IsRisingOver}
 use Rattle.vault_rules.specs.declared.rows.RawCard.{RawCard}
 
 pub returns-clause-taken : goal.returns-clause-taken
-returns-clause-taken c merchants raws found held =
+returns-clause-taken c merchants found raws held =
     let old = c.args.self.now in
     let card = c.args.card.now in
     let numbered : SFits w64 card.id = search rules in

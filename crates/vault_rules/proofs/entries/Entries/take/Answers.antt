@@ -38,15 +38,15 @@ module _ (c : After-pointed) (cards : List RawCard) (raws : List RawEntry)
 
   rules_kept : KeepRules merchants cards c.take-2.new.self all
   rules_kept = subst (λ x. KeepRules merchants cards c.take-2.new.self (raws ++ x ∷ []))
-      c.found-found.ensures.entry (c.take-2.ensures merchants cards raws found has.rules)
+      c.found-found.ensures.entry (c.take-2.ensures merchants cards found raws has.rules)
 
   live : AreLive merchants cards c.take-3.new.self all
   live = subst (λ x. AreLive merchants cards c.take-3.new.self (raws ++ x ∷ [])) c.found-found.ensures.entry
-      (c.in_ok-take.ensures merchants cards raws found has.live)
+      (c.in_ok-take.ensures merchants cards found raws has.live)
 
   tokens : HoldTokens merchants c.take-4.new.self all
   tokens = subst (λ x. HoldTokens merchants c.take-4.new.self (raws ++ x ∷ [])) c.found-found.ensures.entry
-      (c.in_ok-take-2.ensures merchants cards raws found has.tokens)
+      (c.in_ok-take-2.ensures merchants cards found raws has.tokens)
 
   came : (used : Vec ℕ) → ((id : ℤ) (place : ℕ) → place_of cards id ≡ Some place
       → slice_index_or used.items place 0 ≡ used_by all id)

@@ -22,6 +22,6 @@ returns-in-Some c cards raws has tokens =
     let found = sym c.merchant.ensures ∙ ap option_copied c.in-Some.is in
     let named = merchant_named merchants c.args.merchant.now m found in
     let text = c.as_bytes.ensures.value in
-    c.usage.ensures merchants raws has.tokens (ap (is_known merchants) named ∙ ap is_some found)
-    (sym has.rules.tokens ∙ tokens)
+    c.usage.ensures merchants raws has.tokens (sym has.rules.tokens ∙ tokens)
+    (ap (is_known merchants) named ∙ ap is_some found)
     ∙ (λ i. option_map (λ (e : RawEntry). e.usage) (entry_of raws (named i) (text i)))

@@ -21,7 +21,7 @@ use Rattle.vault_rules.specs.Packed.{packed}
 use Rattle.vault_rules.specs.Texts.{is_token}
 
 pub returns-in_default : goal.returns-in_default
-returns-in_default c merchants cards raws is were =
+returns-in_default c merchants cards is raws were =
     let e = c.args.found.now.entry.now in
     let none = sym is.merchant ∙ ap option_copied c.in_default.is in
     record {
@@ -46,7 +46,7 @@ module _ (c : After-is_token) (merchants : List RawMerchant) (cards : List RawCa
       (were.held name known)
 
 pub returns-in_ok-put_first : goal.returns-in_ok-put_first
-returns-in_ok-put_first c merchants cards raws is were =
+returns-in_ok-put_first c merchants cards is raws were =
     let e = c.args.found.now.entry.now in
     let at = (goal.at.returns-in_ok-put_first c).After-is_token in
     record {
@@ -63,7 +63,7 @@ returns-in_ok-put_first c merchants cards raws is were =
     }
 
 pub returns-else-is_token : goal.returns-else-is_token
-returns-else-is_token c merchants cards raws is were = record {
+returns-else-is_token c merchants cards is raws were = record {
   held = held (goal.at.returns-else-is_token c).After-is_token merchants cards raws is were;
   usages = λ all name token known valid.
       let last = all_last (has_token merchants) raws c.args.found.now.entry.now all in

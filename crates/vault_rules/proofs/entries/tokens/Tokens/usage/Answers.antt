@@ -8,7 +8,7 @@ use Rattle.vault_rules.specs.declared.rows.RawEntry.{RawEntry}
 use Rattle.std.specs.Prelude.{string_bytes}
 
 pub returns-then-not-is_token : goal.returns-then-not-is_token
-returns-then-not-is_token c merchants raws hold known all =
+returns-then-not-is_token c merchants raws hold all known =
     let name = string_bytes c.args.merchant.now.name in
     let none : is_token c.args.token.now ≡ false = sym c.is_token.ensures ∙ search (c.if-not-is_token.true) in
     sym (ap (option_map (λ (e : RawEntry). e.usage))

@@ -12,7 +12,7 @@ use Rattle.vault_rules.proofs.TokenLemmas.{pan_number}
 use Rattle.vault_rules.proofs.rules.live.Live.take.Goals as goal
 
 pub returns-then-not-self : goal.returns-then-not-self
-returns-then-not-self c merchants cards raws is were =
+returns-then-not-self c merchants cards is raws were =
     let e = c.args.found.now.entry.now in
     let off : c.args.self.now.alone ≡ false = search (c.if-not-self.true) in
     record {
@@ -23,7 +23,7 @@ returns-then-not-self c merchants cards raws is were =
     }
 
 pub returns-in_ok-self : goal.returns-in_ok-self
-returns-in_ok-self c merchants cards raws is were =
+returns-in_ok-self c merchants cards is raws were =
     let on : c.args.self.now.alone ≡ true = search (c.if-not-self.false) in
     let so_far = filter_map (live_key merchants cards) raws in
     let next = next_key merchants cards raws c.args.found.now.entry.now _
@@ -47,7 +47,7 @@ returns-in_ok-self c merchants cards raws is were =
     }
 
 pub returns-in_default : goal.returns-in_default
-returns-in_default c merchants cards raws is were =
+returns-in_default c merchants cards is raws were =
     let e = c.args.found.now.entry.now in
     let h = live_key merchants cards in
     record {
