@@ -21,7 +21,7 @@ MAY_BE = {
 CLAUSE = re.compile(r"^ *(?:ensures|requires)\b[^{\n]*\{", re.M)
 FUNCTION = re.compile(r"^ *(?:pub(?:\(crate\))? )?fn (\w+)", re.M)
 RECORD = re.compile(r"^ *(?:pub )?record (?:pub )?([^\s{]+)((?:(?!\n\n)[^=])*?) : Type \d+\s+where", re.M)
-MODULE = re.compile(r"^( *)module _([^=]*?) where\n((?:\n|\1 +[^\n]*\n)*)", re.M)
+AROUND = re.compile(r"^( *)module _([^=]*?) where\n((?:\n|\1 +[^\n]*\n)*)", re.M)
 SIGNATURE = re.compile(
     r"^ *(?:abbrev |unfoldable )?(?:pub )?([\w-]+) :((?:(?!\n\n).)*?)\n *\1(?: [^\n]*)? =", re.M | re.S
 )
@@ -89,11 +89,11 @@ def in_contracts(path, counted):
 
 def definitions(text):
     """Each definition's name and how many arguments it takes, with those of the modules that it stands in."""
-    around = [(found.span(3), binders(found.group(2))) for found in MODULE.finditer(text)]
+    around = [(found.span(3), binders(found.group(2))) for found in AROUND.finditer(text)]
     around += [
         ((start + inner.start(3), start + inner.end(3)), binders(inner.group(2)))
         for (start, end), _ in around
-        for inner in MODULE.finditer(text[start:end])
+        for inner in AROUND.finditer(text[start:end])
     ]
     found = [(it.start(1), it.group(1), binders(it.group(2))) for it in RECORD.finditer(text)]
     found += [(it.start(1), it.group(1), places(it.group(2))) for it in SIGNATURE.finditer(text)]

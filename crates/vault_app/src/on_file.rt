@@ -1,10 +1,9 @@
 //! What is done with the vault in a file.
-ghost use Rattle.std.specs.Prelude.{◌≡◌, IsTrue, List, Option, Result};
-ghost use Rattle.vault_live.specs.Turns.{TellsTurns, Turn};
-ghost use Rattle.vault_jobs.specs.Streams.{Seen, seen_over, seen_with};
+ghost use Rattle.std.specs.Prelude.{◌≡◌, IsTrue, Option, Result};
+ghost use Rattle.vault_jobs.specs.Streams.{WhereSeen};
 ghost use Rattle.vault_jobs.specs.Tasks.{IsProper};
 ghost use Rattle.vault_app.specs.Files.{EndsOnFile, IsShow, ending_for};
-ghost use Rattle.vault_app.specs.World.{World, world_at};
+ghost use Rattle.vault_app.specs.World.{world_at};
 
 use crate::ending::Ending;
 use crate::note::Note;
@@ -77,11 +76,9 @@ pub(crate) fn do_on_file<P: Paths, K: Timekeeper, N: Network, D: Desk, R: Read, 
     requires proper { IsProper task.now }
     // by how it ends: what was done with the vault in the files, or why they weren't opened, and which files
     // are left
-    ensures does { let world : World = world_at P.Paths (K.tells time.now) (D.says desk.now) paths in
-        let v : Seen = seen_over R.remaining input.old input.new W.contents output.old output.new in
-        (turns : List Turn)
-        × TellsTurns (N.tells network.old) (N.tells network.new) turns
-        × EndsOnFile world path.now result.1 task.now result.0 (seen_with v turns) }
+    ensures does { WhereSeen (N.tells, R.remaining, W.contents)
+        (network.old, input.old, output.old) (network.new, input.new, output.new) (EndsOnFile
+        (world_at P.Paths (K.tells time.now) (D.says desk.now) paths) path.now result.1 task.now result.0) }
 {
     if only_shows(task) {
         match paths.is_empty(rt, path) {

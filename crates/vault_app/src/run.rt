@@ -1,21 +1,19 @@
 //! The program, but for what the process gives it.
-ghost use Rattle.std.specs.Prelude.{◌≡◌, ◌≢◌, ◌↔◌, ◌⊎◌, IfErr, IfOk, List, Option, map};
+ghost use Rattle.std.specs.Prelude.{◌≡◌, ◌≢◌, ◌↔◌, ◌⊎◌, IfErr, IfOk, map};
 ghost use Rattle.std.specs.Prelude.{string_bytes};
 ghost use Rattle.std.specs.IoError.{error_kind};
 ghost use Rattle.vault_wire.specs.Watching.{inner_of, is_stopped};
 ghost use Rattle.vault_wire.specs.declared.watched.Watched.{Watched};
-ghost use Rattle.vault_live.specs.Turns.{TellsTurns, Turn};
-ghost use Rattle.vault_jobs.specs.Streams.{Seen, seen_over, seen_with};
+ghost use Rattle.vault_jobs.specs.Streams.{WhereSeen};
 ghost use Rattle.vault_live.specs.Told.{Tells};
 ghost use Rattle.vault_words.specs.Why.{HasFewDigits};
-ghost use Rattle.vault_app.specs.Ending.{bad_words_line, note_line, placeholder_line, said_on, stop_line};
+ghost use Rattle.vault_app.specs.Ending.{SaysAtMost, bad_words_line, note_line, placeholder_line, said_on};
+ghost use Rattle.vault_app.specs.Ending.{stop_line};
 ghost use Rattle.vault_app.specs.Jobs.{Does, DoesPlan, DoesRun};
 ghost use Rattle.vault_app.specs.Plans.{EndsPlanless, IsMisnamed, IsPlanOf, IsProperPlan};
 ghost use Rattle.vault_app.specs.Asked.{AsksFor, IsBatch};
 ghost use Rattle.vault_app.specs.Notes.{MayNote};
 ghost use Rattle.vault_app.specs.World.{World, no_looks, world_at};
-ghost use Rattle.vault_app.specs.declared.note.Note.{Note};
-ghost use Rattle.vault_app.specs.declared.placeholder.Placeholder.{Placeholder};
 
 use crate::commands::check::tell_sizes;
 use crate::commands::migrate::{has_no_vault, tell_moved};
@@ -99,11 +97,9 @@ fn carry_out<P: Paths, K: Timekeeper, N: Network, D: Desk, R: Read, W: Write>(
     requires { IsProperPlan plan }
     // by how it ends: what the plan did with the files at its path, which are left, and what was read and
     // sent
-    ensures does { let world : World = world_at P.Paths (K.tells time.now) (D.says desk.now) paths in
-        let v : Seen = seen_over R.remaining input.old input.new W.contents output.old output.new in
-        (turns : List Turn)
-        × TellsTurns (N.tells network.old) (N.tells network.new) turns
-        × DoesPlan world result.1 plan.entry result.0 (seen_with v turns) }
+    ensures does { WhereSeen (N.tells, R.remaining, W.contents)
+        (network.old, input.old, output.old) (network.new, input.new, output.new) (DoesPlan
+        (world_at P.Paths (K.tells time.now) (D.says desk.now) paths) result.1 plan.entry result.0) }
 {
     match plan {
         Plan::Trial(trial) => (trial::serve(rt, time, &trial, input, output), None),
@@ -138,11 +134,10 @@ fn ended<P: Paths, K: Timekeeper, N: Network, D: Desk, A: AsStr, R: Read, W: Wri
     output: &mut Watched<W>,
 ) -> (Conclusion, Option<FileStore<P::Disk>>)
     // by how it ends: what the words' job did with its files, which are left, and what was read and sent
-    ensures does { let world : World = world_at P.Paths (K.tells time.now) (D.says desk.now) paths in
-        let v : Seen = seen_over R.remaining input.old input.new W.contents output.old output.new in
-        (turns : List Turn)
-        × TellsTurns (N.tells network.old) (N.tells network.new) turns
-        × Does world result.1 (map A.text words.now) result.0.ending (seen_with v turns) }
+    ensures does { WhereSeen (N.tells, R.remaining, W.contents)
+        (network.old, input.old, output.old) (network.new, input.new, output.new) (Does
+        (world_at P.Paths (K.tells time.now) (D.says desk.now) paths) result.1 (map A.text words.now)
+        result.0.ending) }
     // what is said of the words shows fewer than ten digits, too few for a card number
     ensures few { HasFewDigits (string_bytes result.0.why) }
 {
@@ -178,11 +173,9 @@ pub fn run<P: Paths, K: Timekeeper, N: Network, D: Desk, A: AsStr, R: Read, W: W
 ) -> (u8, Option<FileStore<P::Disk>>)
     // the run did what the words ask, which gives its status, the files left, what was read and sent, and
     // what it said then
-    ensures does { let world : World = world_at P.Paths (K.tells time.now) (D.says desk.now) paths in
-        (told : Watched W) × (turns : List Turn)
-        × TellsTurns (N.tells network.old) (N.tells network.new) turns
-        × (let v : Seen = seen_over R.remaining input.old input.new W.contents output.old told in
-        DoesRun world (map A.text words.now) result (seen_with v turns)
+    ensures does { (told : Watched W) × WhereSeen (N.tells, R.remaining, W.contents)
+        (network.old, input.old, output.old) (network.new, input.new, told) (λ v. DoesRun
+        (world_at P.Paths (K.tells time.now) (D.says desk.now) paths) (map A.text words.now) result v
         (said_on W.contents told output.new) (said_on E.contents errors.old errors.new)) }
     // the status is 0, 1, 2, 3 or 4
     ensures status { (result.0 ≡ 0) ⊎ (result.0 ≡ 1) ⊎ (result.0 ≡ 2) ⊎ (result.0 ≡ 3) ⊎ (result.0 ≡ 4) }

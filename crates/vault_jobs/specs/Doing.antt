@@ -39,7 +39,7 @@ use Rattle.vault_jobs.specs.Outcomes.{ComesTo, no_outcome}
 use Rattle.vault_jobs.specs.Outside.{Outside, outside}
 use Rattle.vault_jobs.specs.Piped.{IsPiped, StopsPiping}
 use Rattle.vault_jobs.specs.Streams.{Known, Output, Seen, Streams, output_in, output_of}
-use Rattle.vault_jobs.specs.Streams.{seen_over, seen_with}
+use Rattle.vault_jobs.specs.Streams.{WhereSeen}
 use Rattle.vault_jobs.specs.Sweeps.{Sweeps}
 use Rattle.vault_jobs.specs.Tasks.{BreaksBy, HasNoTurns, IsTaskBegun, granted_line}
 use Rattle.vault_jobs.specs.Tasks.{listening_line, merchants_line, purged_line}
@@ -272,6 +272,6 @@ pub record Does (at : Outside) (task : Task) (w : Passage) (result : Result Outc
 abbrev pub TaskDone : {N T R W : Type 0} → (N → List Event → Type 0) × Ghosts T × (R → Known) × (W → Known)
     → N × Holder T × Watched R × Watched W → N × Holder T × Watched R × Watched W
     → Turns × (List ℕ → Looks) → Task → Result Outcome Stop × Option Note → Type 0
-TaskDone over old new at task ended = SomeTurns over.0 old.0 new.0
-    (λ turns. Does (outside at.0 at.1) task (passage over.1 old.1 new.1) ended.0 ended.1
-    (seen_with (seen_over over.2 old.2 new.2 over.3 old.3 new.3) turns))
+TaskDone over old new at task ended =
+    WhereSeen (over.0, over.2, over.3) (old.0, old.2, old.3) (new.0, new.2, new.3)
+    (Does (outside at.0 at.1) task (passage over.1 old.1 new.1) ended.0 ended.1)

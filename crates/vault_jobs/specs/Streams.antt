@@ -3,7 +3,8 @@ use Rattle.std.specs.Prelude.{◌≡◌, List, [], Bool}
 use Rattle.vault_wire.specs.Watching.{inner_of, is_stopped}
 use Rattle.vault_wire.specs.declared.watched.Watched.{Watched}
 pub use Rattle.vault_listen.specs.Peers.{Known}
-use Rattle.vault_live.specs.Turns.{Turn}
+use Rattle.vault_listen.specs.Peers.{Event}
+use Rattle.vault_live.specs.Turns.{SomeTurns, Turn}
 
 -- The input and the output before a job and after it: the bytes that the one has left and the other has
 -- taken, and whether they have failed; and the turns of a service.
@@ -72,6 +73,14 @@ seen_over remaining r r' contents w w' =
 -- the same, with the turns of a service
 abbrev pub seen_with : Seen → List Turn → Seen
 seen_with v ts = record v { streams = with_turns v.streams ts }
+
+-- This is so of what is seen between a network, an input and an output before a job and after it, in turns of
+-- which the network tells.
+abbrev pub WhereSeen : {N R W : Type 0} → (N → List Event → Type 0) × (R → Known) × (W → Known)
+    → N × Watched R × Watched W → N × Watched R × Watched W → (Seen → Type 0) → Type 0
+WhereSeen over old new Is =
+    SomeTurns over.0 old.0 new.0
+    (λ turns. Is (seen_with (seen_over over.1 old.1 new.1 over.2 old.2 new.2) turns))
 
 -- the output alone
 abbrev pub output_in : Seen → Output

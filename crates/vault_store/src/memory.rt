@@ -7,9 +7,9 @@ mod current;
 mod dead;
 mod entries;
 mod index;
+mod keyed_rows;
 mod merchant;
 mod rights;
-mod rows;
 mod write;
 
 use crate::merchant_names::names_of;

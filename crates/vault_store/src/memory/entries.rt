@@ -10,7 +10,7 @@ ghost use Rattle.vault_store.specs.Live.{IsLiveToken};
 
 use crate::memory::current::live_token;
 use crate::memory::index::{NumberKey, latest, put_in, take_out};
-use crate::memory::rows::{put, put_back};
+use crate::memory::keyed_rows::{put, put_back};
 use std::alloc::{AllocError, Global};
 use std::collections::{BTreeMap, BTreeSet};
 use vault_core::moment::Moment;

@@ -5,7 +5,7 @@ ghost use Rattle.std.specs.FinMap as map;
 ghost use Rattle.vault_core.specs.Keys.{right_cmp};
 ghost use Rattle.vault_store.specs.Shown.{Shows};
 
-use crate::memory::rows::{put, put_back};
+use crate::memory::keyed_rows::{put, put_back};
 use std::alloc::AllocError;
 use std::collections::BTreeMap;
 use vault_core::name::{Caller, MerchantId};

@@ -6,9 +6,9 @@ ghost use Rattle.vault_core.specs.Vault.{Vault};
 ghost use Rattle.vault_store.specs.Added.{AddsNothing};
 ghost use Rattle.vault_store.specs.Written.{HoldsRecords, HoldsRights};
 
+use crate::memory::keyed_rows::{put, put_back};
 use crate::memory::merchant::put_merchant;
 use crate::memory::rights::{give, give_back, take_away};
-use crate::memory::rows::{put, put_back};
 use std::alloc::AllocError;
 use std::collections::BTreeMap;
 use vault_core::changes::Changes;

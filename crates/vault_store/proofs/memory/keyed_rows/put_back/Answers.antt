@@ -1,7 +1,7 @@
 use Rattle.std.proofs.Common.{◌+◌, cond, is_some, ap, ◌∙◌, sym, btree_map_len}
 use Rattle.vault_core.proofs.Maps.{get-insert_same}
 use Rattle.vault_store.proofs.ShownLemmas.{shows-removed, shows-restored, not_refused, len_not_refused}
-use Rattle.vault_store.proofs.memory.rows.put_back.Goals as goal
+use Rattle.vault_store.proofs.memory.keyed_rows.put_back.Goals as goal
 
 pub returns-in-None : goal.returns-in-None
 returns-in-None g c exact F row was h =

@@ -1,6 +1,6 @@
 use Rattle.std.proofs.Common.{◌+◌, cond, is_some, ap, ◌∙◌, btree_map_len}
 use Rattle.vault_store.proofs.ShownLemmas.{shows-put}
-use Rattle.vault_store.proofs.memory.rows.put.Goals as goal
+use Rattle.vault_store.proofs.memory.keyed_rows.put.Goals as goal
 
 pub returns-clause-ok : goal.returns-clause-ok
 returns-clause-ok g c F h =
