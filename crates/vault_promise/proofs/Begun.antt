@@ -33,7 +33,7 @@ use Rattle.vault_promise.proofs.ListedMerchants.{some_set}
 use Rattle.vault_promise.proofs.PipedMessages.{run_append}
 use Rattle.vault_promise.proofs.Proper.{proper-append}
 use Rattle.vault_promise.proofs.Serving.{asks_proper, asks_up, serve_works}
-use Rattle.vault_promise.proofs.SettledRights.{changes_proper}
+use Rattle.vault_live.proofs.ProperChanges.{settled_proper}
 use Rattle.vault_promise.proofs.TaskAnswers.{Works, first_proper, one_more}
 use Rattle.vault_promise.specs.Runs.{perhaps}
 use Rattle.vault_promise.specs.Told.{IsQuiet, seen}
@@ -61,7 +61,7 @@ set_proper (Some it) V values = some_set it.now (merchant_rows V) it.rows.items 
 settle_proper : (o : Option (ListFile Row)) (V : Content) → Sound V → IfSome o AreRightValues
     → AllProper (first_of rights_changes o V)
 settle_proper None V sound values = tt
-settle_proper (Some it) V sound values = changes_proper it.now it.rows.items V sound values.0 values.1
+settle_proper (Some it) V sound values = settled_proper it.now it.rows.items V sound values.0 values.1
 
 -- and both of them, one after the other
 begin_proper : (lists : Lists) (V : Content) → Sound V → IfSome lists.merchants AreMerchantValues

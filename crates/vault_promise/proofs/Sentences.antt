@@ -152,10 +152,10 @@ module _ (due : OnlyDueIsGiven) (texts : EachIsDue) (faults : FaultsTellNoNumber
   are_due tells (task.Settle rights now) W cs s it = tt
   are_due tells (task.SetMerchants rows now) W cs s it = tt
   are_due tells (task.Sweep who now giver) W cs s it = tt
-  are_due tells (task.Batch who now digits) W cs s it = λ first more row x is wanted number replied.
+  are_due tells (task.Batch who now digits) W cs s (it, asked) = λ first more row x is wanted number replied.
       let gives = it.each first more row x is wanted number replied in
       row_is who row.unit row.pair row.wanted
-      (in_all (Asks who) first more row (subst (All (Asks who)) is it.asked))
+      (in_all (Asks who) first more row (subst (All (Asks who)) is asked))
       gives.caller gives.merchant gives.token gives.now (wanted ∙ ap Ok gives.asks)
   are_due tells (task.Pipe now digits) W cs s it = due_texts tells now digits W s it
   are_due tells (task.Serve port connections lists) W cs s (inl none) = tt

@@ -1,15 +1,12 @@
 -- What a task answered that reads rights first: one that makes them those of a list, takes one away, or only
 -- says what a vault holds.
-use Rattle.std.proofs.Common.{◌≡◌, ℕ, true, false, cond, not, List, [], ◌∷◌, length}
+use Rattle.std.proofs.Common.{◌≡◌, ℕ, List, [], length}
 use Rattle.std.proofs.Common.{None, Result, Ok, Err, inl, inr, refl, sym, ap, subst, ◌∙◌}
 use Rattle.std.specs.FinMap as finmap
 use Rattle.std.specs.Global.{Vec}
 use Rattle.std.specs.Prelude.{take}
-use Rattle.sqlite_rules.specs.Lists.{Has}
 use Rattle.std.proofs.Math.Seq.{take-length}
 use Rattle.std.specs.Io.KnownBytes.{Appends}
-use Rattle.vault_core.proofs.Maps.{right_total}
-use Rattle.vault_core.specs.Name.{IsName}
 use Rattle.vault_core.specs.Proper.{AllProper, IsProper}
 use Rattle.vault_core.specs.Scalar.{IsMoment}
 use Rattle.vault_core.specs.Sound.{Sound}
@@ -18,11 +15,9 @@ use Rattle.vault_core.specs.declared.command.Command.{Command}
 use Rattle.vault_engine.specs.Passing.{IsBefore, Passage}
 use Rattle.vault_listen.specs.Live.{Turns}
 use Rattle.vault_rights.specs.Named.{Row}
-use Rattle.vault_sql.proofs.Dead.{has_found}
 use Rattle.vault_store.specs.declared.vault.Fault.{Fault}
 use Rattle.vault_store.specs.declared.vault.Fault.TheVariants.{Memory, Store, Reopen}
-use Rattle.vault_changes.specs.Changes.{Held, changes_at, is_held, is_listed, missing_rows}
-use Rattle.vault_changes.specs.Changes.{rights_of, surplus_rights, withdrawals_at, settled_line}
+use Rattle.vault_changes.specs.Changes.{settled_line}
 use Rattle.vault_changes.specs.Settling.{FailsToRead}
 use Rattle.vault_jobs.specs.Doing.{ChangeEnds, SettleEnds, ShowEnds}
 use Rattle.vault_changes.specs.Grants.{grants_at}
@@ -35,53 +30,9 @@ use Rattle.vault_jobs.specs.declared.task.Outcome.{Outcome as Ended}
 use Rattle.vault_jobs.specs.declared.task.Outcome.TheVariants as outcome
 use Rattle.vault_jobs.specs.declared.task.Task.TheVariants as task
 use Rattle.vault_app.specs.TaskValues.{IsOwn}
-use Rattle.vault_promise.proofs.Proper.{proper-append}
+use Rattle.vault_live.proofs.ProperChanges.{settled_proper}
 use Rattle.vault_promise.proofs.TaskAnswers.{Works, change_works, commands_works}
 use Rattle.vault_promise.specs.Told.{IsQuiet, Tells}
-
--- grants of some of the rows are proper where those of all are
-some_proper : (now : ℕ) (held : List Held) (rows : List Row) → AllProper (grants_at now rows)
-    → AllProper (grants_at now (missing_rows rows held))
-some_proper now held [] proper = tt
-some_proper now held (row ∷ rows) proper =
-    let rest = some_proper now held rows proper.1 in
-    elim (not (is_held held row)) as (λ b. AllProper (grants_at now (cond b (row ∷ missing_rows rows held)
-    (missing_rows rows held)))) [
-      | true ↦ (proper.0, rest)
-      | false ↦ rest
-    ]
-
--- a right of a sound vault has names
-abbrev IsNamed : Held → Type 0
-IsNamed it = IsName it.0.0 × IsName it.0.1.0
-
-named_in : (V : Content) → Sound V → (it : Held) → Has (rights_of V) it → IsNamed it
-named_in V sound it there =
-    let stands = finmap.get-entries V.rights it.0
-    ∙ has_found right_total (rights_of V) (finmap.entries_sorted V.rights) it there in
-    let right = sound.rights it.0.0 it.0.1.0 it.0.1.1 it.1 stands in
-    (right.0, (sound.merchants it.0.1.0 right.1 right.2).name)
-
-withdrawn_proper : (now : ℕ) (rows : List Row) → IsMoment now → (held : List Held)
-    → ((it : Held) → Has held it → IsNamed it)
-    → AllProper (withdrawals_at now (surplus_rights rows held))
-withdrawn_proper now rows moment [] named = tt
-withdrawn_proper now rows moment (it ∷ held) named =
-    let rest = withdrawn_proper now rows moment held (λ x h. named x (inr h)) in
-    let own = named it (inl refl) in
-    elim (not (is_listed rows it.0)) as (λ b. AllProper (withdrawals_at now
-    (cond b (it ∷ surplus_rights rows held) (surplus_rights rows held)))) [
-      | true ↦ ((own.0, own.1, moment), rest)
-      | false ↦ rest
-    ]
-
-pub changes_proper : (now : ℕ) (rows : List Row) (V : Content) → Sound V → IsMoment now
-    → AllProper (grants_at now rows) → AllProper (changes_at true now rows (rights_of V))
-changes_proper now rows V sound moment proper =
-    proper-append (grants_at now (missing_rows rows (rights_of V)))
-    (withdrawals_at now (surplus_rights rows (rights_of V)))
-    (some_proper now (rights_of V) rows proper)
-    (withdrawn_proper now rows moment (rights_of V) (named_in V sound))
 
 module _ (tells : Turns) (w : Passage) (V : Content) (b : IsBefore w V) (sound : Sound V) (s : Streams)
     (unsent : Type 0) (quiet : unsent → IsQuiet s) (F : Type 0) where
@@ -127,7 +78,7 @@ module _ (tells : Turns) (w : Passage) (V : Content) (b : IsBefore w V) (sound :
       let is = (of V b).commands in
       commands_works tells w V b s unsent quiet F (task.Settle rights now) changes.commands.items
       (settled_line changes)
-      (subst AllProper (sym is) (changes_proper now rights.items V sound moment proper))
+      (subst AllProper (sym is) (settled_proper now rights.items V sound moment proper))
       (λ done. inr (is, done)) (λ k calm. inl (calm, (k, ap (take k) is)))
       (λ ds x first. (first.0, first.1 ∙ ap (take first.0) is)) (λ done. (is, done)) r fin h
   settle_works rights now moment proper r fin (inr (f, is, silent, h)) =

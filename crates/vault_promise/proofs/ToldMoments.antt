@@ -52,7 +52,7 @@ task_told tells (task.Give rights now) W cs s it = tt
 task_told tells (task.Settle rights now) W cs s it = tt
 task_told tells (task.SetMerchants rows now) W cs s it = tt
 task_told tells (task.Sweep who now giver) W cs s it = tt
-task_told tells (task.Batch who now digits) W cs s it = each_told tells now digits it.rows []
+task_told tells (task.Batch who now digits) W cs s (it, asked) = each_told tells now digits it.rows []
     (subst (λ xs. AreGiven tells now digits (pairs_of xs)) (sym (append-nil it.rows)) it.read.given)
 task_told tells (task.Pipe now digits) W cs s it =
     each_told tells now digits it.exchanges it.heard.more it.heard.given

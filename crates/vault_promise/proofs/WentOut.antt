@@ -93,14 +93,10 @@ went_out tells (task.Sweep who now giver) W cs s Is each (tokens, is, swept, inr
     (inl calm, (tokens, is, swept, inl few))
 went_out tells (task.Sweep who now giver) W cs s Is each (tokens, is, swept, inr none, inr may) =
     (inr (may, (tokens, is, none)), (tokens, is, swept, inr may))
-went_out tells (task.Batch who now digits) W cs s Is each (xs, asked, are, read, (sent, went)) = record {
-  rows = xs;
-  asked = asked;
-  read = read;
-  sent = sent;
-  went = went;
-  each = each_asked W cs xs Is each are;
-}
+went_out tells (task.Batch who now digits) W cs s Is each (xs, asked, are, read, (sent, went)) = (
+  record { rows = xs; read = read; sent = sent; went = went; each = each_asked W cs xs Is each are },
+  asked,
+)
 went_out tells (task.Pipe now digits) W cs s Is each told = texts_tell tells now digits W cs s Is each told
 went_out tells (task.Serve port connections lists) W cs s Is each (inl (k, is, none)) = inl none
 went_out tells (task.Serve port connections lists) W cs s Is each (inr (more, is, done, told)) =

@@ -40,8 +40,8 @@ module _ {D R W E K X P : Type 0} (g : Ghosts D) (remaining : R → Known) (cont
     (said : E → Known) (world_of : K → X → P → World) where
   abbrev pub FilesOpenSound : Type 0
   FilesOpenSound =
-      (time : K) (desk : X) (paths : P) (image : Image) (left : FileStore D g) (words : List Text) (status : ℕ)
-      (turns : List Turn) (i i' : Watched R) (o told o' : Watched W) (e e' : Watched E)
+      (time : K) (desk : X) (paths : P) (image : Image) (left : FileStore D g) (words : List Text)
+      (status : ℕ) (turns : List Turn) (i i' : Watched R) (o told o' : Watched W) (e e' : Watched E)
       → (let world : World = world_of time desk paths in
       (it : DoesRun world words (status, Some left)
       (seen_with (seen_over remaining i i' contents o told) turns) (said_on contents told o')

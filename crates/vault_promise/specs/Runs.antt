@@ -49,6 +49,10 @@ Moments = ℕ → ℕ → Bool
 abbrev pub told_by : Moments → Turns
 told_by moments turn now = moments turn now ≡ true
 
+-- a clock tells no other moments than these
+abbrev pub TellsOnly : Turns → Moments → Type 0
+TellsOnly tells moments = (turn now : ℕ) → tells turn now → told_by moments turn now
+
 -- a world in which these moments may be told, and anything else
 abbrev pub at_moments : Moments → World
 at_moments moments = record anything { tells = told_by moments }
@@ -199,7 +203,7 @@ module _ {D R W E K X P : Type 0} (g : Ghosts D) (remaining : R → Known) (cont
       (result : ℕ × Option (FileStore D g)) (moments : Moments) (turns : List Turn) (i i' : Watched R)
       (o told o' : Watched W) (e e' : Watched E)
       → (let world : World = world_of time desk paths in
-      ((turn now : ℕ) → world.tells turn now → told_by moments turn now)
+      TellsOnly world.tells moments
       → let s : Streams = with_turns (streams remaining i i' contents o told) turns in
       (it : DoesRun world words result (seen_as (i' ≡ i) (told ≡ o) s) (said_on contents told o')
       (said_on said e e'))

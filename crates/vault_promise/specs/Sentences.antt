@@ -19,7 +19,6 @@ use Rattle.vault_recover.specs.Histories.{AnswersToken, IsHistory, Step, answers
 use Rattle.vault_recover.specs.Histories.{leaves_number}
 use Rattle.vault_batch.specs.Asking.{Asks}
 use Rattle.vault_batch.specs.Rows.{Row}
-use Rattle.vault_batch.specs.declared.asker.Asker.{Asker}
 use Rattle.vault_batch.specs.Batched.{lines}
 use Rattle.vault_batch.specs.Lines.{first_line}
 use Rattle.vault_http.specs.Exchanges.{answer_for, fault_text, last_text}
@@ -109,10 +108,9 @@ pub record TextsTell (tells : Turns) (now : Option ℕ) (digits : Option (List �
   pub each : EachAsked W exchanges Is
 
 -- what went out of rows: the lines that answer those that came in, up to some byte
-pub record LinesTell (tells : Turns) (who : Asker) (now : Option ℕ) (digits : Option (List ℕ)) (W : Content)
+pub record LinesTell (tells : Turns) (now : Option ℕ) (digits : Option (List ℕ)) (W : Content)
     (s : Streams) (Is : Content → Command → Type 0) : Type 0 where
   pub rows : List (Asked Row)
-  pub asked : All (Asks who) rows
   pub read : AreRead tells now digits s rows
   pub sent : ℕ
   pub went : Appends s.sent_old s.sent_new (take sent (first_line ++ lines W rows))
@@ -126,11 +124,12 @@ TurnsTell tells W (Served x ∷ ts) Is = (it : TextsTell tells None None W (stre
     × TurnsTell tells (vault_after W it.exchanges) ts Is
 TurnsTell tells W (Attended cs news ∷ ts) Is = TurnsTell tells (run cs W) ts Is
 
--- What went out of a task. A line of one that isn't asked message by message says that all is done; no
--- connection is answered before what the lists ask for is done; a sweep purges dead tokens alone; and of a
--- list, it is the text of the vault.
+-- What went out of a task. The rows of a batch ask for its asker alone. A line of a task that isn't asked
+-- message by message says that all is done; no connection is answered before what the lists ask for is done;
+-- a sweep purges dead tokens alone; and of a list, it is the text of the vault.
 abbrev pub WentOut : Turns → Task → Content → List Command → Streams → (Content → Command → Type 0) → Type 0
-WentOut tells (Batch who now digits) W cs s Is = LinesTell tells who now digits W s Is
+WentOut tells (Batch who now digits) W cs s Is =
+    (it : LinesTell tells now digits W s Is) × All (Asks who) it.rows
 WentOut tells (Pipe now digits) W cs s Is = TextsTell tells now digits W s Is
 WentOut tells (Serve port connections lists) W cs s Is =
     (let first = begin_of lists W in
@@ -187,7 +186,7 @@ AreDueTurns tells W (Attended cs news ∷ ts) all = AreDueTurns tells (run cs W)
 
 abbrev pub AreDue : (tells : Turns) (t : Task) (W : Content) (cs : List Command) (s : Streams)
     → WentOut tells t W cs s GivesDue → Type 0
-AreDue tells (Batch who now digits) W cs s it =
+AreDue tells (Batch who now digits) W cs s (it, asked) =
     EachAsked W it.rows (λ U x. (number : Bytes) → ¬ (reply U x ≡ Number number))
 AreDue tells (Pipe now digits) W cs s it = AreDueTexts tells now digits W s it
 AreDue tells (Serve port connections lists) W cs s (inl none) = Unit {0}
@@ -234,7 +233,7 @@ TurnsTold tells W (Attended cs news ∷ ts) all = TurnsTold tells (run cs W) ts 
 
 abbrev pub TaskTold : (tells : Turns) (t : Task) (W : Content) (cs : List Command) (s : Streams)
     → WentOut tells t W cs s IsAnything → Type 0
-TaskTold tells (Batch who now digits) W cs s it = EachTold tells now it.rows
+TaskTold tells (Batch who now digits) W cs s (it, asked) = EachTold tells now it.rows
 TaskTold tells (Pipe now digits) W cs s it = EachTold tells now it.exchanges
 TaskTold tells (Serve port connections lists) W cs s (inl none) = Unit {0}
 TaskTold tells (Serve port connections lists) W cs s (inr (done, it)) =

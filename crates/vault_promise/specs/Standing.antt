@@ -31,14 +31,18 @@ use Rattle.vault_jobs.specs.declared.task.Task.TheVariants.{Batch, Pipe, Serve}
 use Rattle.vault_promise.specs.Runs.{AreOf, Come, Run, Runs, Work, before, told_by}
 use Rattle.vault_promise.specs.Told.{AreHeard, AreRead, streams_of}
 
+-- which commands are answered, and by which replies
+abbrev pub Replies : Type 1
+Replies = Command → Reply → Type 0
+
 -- a run that worked answered this command so
-abbrev pub Answers : {V : Content} {c : Option Command} {r : Run} → Work V c r → Command → Reply → Type 0
+abbrev pub Answers : {V : Content} {c : Option Command} {r : Run} → Work V c r → Replies
 Answers w x y = (first more : List Command) × (w.answered ≡ first ++ x ∷ more)
     × (reply (run first w.opened) x ≡ y)
 
 -- one of these runs did
 abbrev pub AnsweredIn : (V : Content) (c : Option Command) (rs : List Run) (end : Image) → Come V c rs end
-    → Command → Reply → Type 0
+    → Replies
 AnsweredIn V c [] end come x y = ⊥
 AnsweredIn V c (r ∷ rs) end (inl w, more) x y =
     Answers w x y ⊎ AnsweredIn (run w.answered w.opened) w.undecided rs end more x y
@@ -46,13 +50,13 @@ AnsweredIn V c (r ∷ rs) end (inr rests, more) x y = AnsweredIn V c rs end more
 
 -- A request that a run answered a token, if a later run answers it again, with whatever digits and at
 -- whatever moment: the later answer is that token.
-abbrev pub TokensStand : (Command → Reply → Type 0) → (Command → Reply → Type 0) → Type 0
+abbrev pub TokensStand : Replies → Replies → Type 0
 TokensStand Answered Later = (a again : TokenRequest) (token : Bytes) (expires : ℕ) (y : Reply)
     → Answered (command_of a) (Token token expires) → IsSameRequest a again → Later (command_of again) y
     → y ≡ Token token expires
 
 -- one of these asks for the command, and is answered so
-abbrev pub IsRepliedIn : {X : Type 0} → Content → List (Asked X) → Command → Reply → Type 0
+abbrev pub IsRepliedIn : {X : Type 0} → Content → List (Asked X) → Replies
 IsRepliedIn W xs x y = (first more : List (Asked _)) × (it : Asked _) × (xs ≡ first ++ it ∷ more)
     × (it.wanted ≡ Ok x) × (reply (vault_after W first) x ≡ y)
 
@@ -60,7 +64,7 @@ IsRepliedIn W xs x y = (first more : List (Asked _)) × (it : Asked _) × (xs �
 -- of these texts answers a request a token, and a later run answers the request again, that answer is the
 -- token too.
 pub record TextsStand (tells : Turns) (now : Option ℕ) (digits : Option (List ℕ)) (W : Content) (s : Streams)
-    (Later : Command → Reply → Type 0) : Type 0 where
+    (Later : Replies) : Type 0 where
   pub exchanges : List (Asked Parts)
   pub heard : AreHeard tells now digits s exchanges
   pub fault : Option WireFault
@@ -70,7 +74,7 @@ pub record TextsStand (tells : Turns) (now : Option ℕ) (digits : Option (List 
 
 -- and so what went out of rows: it is the lines that answer those that came in, up to some byte
 pub record LinesStand (tells : Turns) (now : Option ℕ) (digits : Option (List ℕ)) (W : Content) (s : Streams)
-    (Later : Command → Reply → Type 0) : Type 0 where
+    (Later : Replies) : Type 0 where
   pub rows : List (Asked Row)
   pub read : AreRead tells now digits s rows
   pub sent : ℕ
@@ -78,7 +82,7 @@ pub record LinesStand (tells : Turns) (now : Option ℕ) (digits : Option (List 
   pub stand : TokensStand (IsRepliedIn W rows) Later
 
 -- and so the texts of each connection, from the vault that the turns before it leave
-abbrev pub TurnsStand : Turns → Content → List Turn → (Command → Reply → Type 0) → Type 0
+abbrev pub TurnsStand : Turns → Content → List Turn → Replies → Type 0
 TurnsStand tells W [] Later = Unit {0}
 TurnsStand tells W (Lost ∷ ts) Later = TurnsStand tells W ts Later
 TurnsStand tells W (Served x ∷ ts) Later = (it : TextsStand tells None None W (streams_of x) Later)
@@ -86,7 +90,7 @@ TurnsStand tells W (Served x ∷ ts) Later = (it : TextsStand tells None None W 
 TurnsStand tells W (Attended cs news ∷ ts) Later = TurnsStand tells (run cs W) ts Later
 
 -- so of a run that answered the messages or the rows of its input, or those of connections
-abbrev pub TellsStanding : Turns → Task → Content → Streams → (Command → Reply → Type 0) → Type 0
+abbrev pub TellsStanding : Turns → Task → Content → Streams → Replies → Type 0
 TellsStanding tells (Batch who now digits) W s Later = LinesStand tells now digits W s Later
 TellsStanding tells (Pipe now digits) W s Later = TextsStand tells now digits W s Later
 TellsStanding tells (Serve port connections lists) W s Later =

@@ -1,5 +1,5 @@
 -- A run that a call of the program was.
-use Rattle.std.specs.Prelude.{◌≡◌, ℕ, ◌++◌, List, Option}
+use Rattle.std.specs.Prelude.{◌≡◌, ℕ, List, Option}
 use Rattle.clap.specs.Words.{Text}
 use Rattle.sqlite_disk.specs.declared.Disk.{Ghosts}
 use Rattle.sqlite_store.specs.declared.store.FileStore.{FileStore}
@@ -7,34 +7,96 @@ use Rattle.sqlite_wal.specs.Recovery.{Image}
 use Rattle.vault_app.specs.Ending.{said_on}
 use Rattle.vault_app.specs.Jobs.{DoesRun}
 use Rattle.vault_listen.specs.Peers.{Event}
-use Rattle.vault_live.specs.Turns.{Turn, events_in}
+use Rattle.vault_live.specs.Turns.{TellsTurns, Turn}
 use Rattle.vault_wire.specs.declared.watched.Watched.{Watched}
 use Rattle.vault_jobs.specs.Streams.{Known, seen_over, seen_with, streams, with_turns}
 use Rattle.vault_app.specs.World.{World}
-use Rattle.vault_promise.specs.Runs.{IsFound, Leaves, Run, told_by}
+use Rattle.vault_promise.specs.Runs.{IsFound, IsRun, Leaves, Moments, Run, TellsOnly}
 
--- The run is what a call with these words, over these streams, in this world, did by the clause of `run`. Its
--- clock tells no other moments than the run's. Its file held the bytes with which the run begins, and what
--- may be left now may be left of the files that it left. It ended with this status, and the network told its
--- turns.
-module _ {D R W E : Type 0} (g : Ghosts D) (remaining : R → Known) (contents : W → Known) (said : E → Known)
-    (told_old told_new : List Event → Type 0) (world : World) (words : List Text) (status : ℕ)
-    (i i' : Watched R) (o o' : Watched W) (e e' : Watched E) where
-  pub record IsCallOf (MayBeLeft : Image → Type 0) (r : Run) : Type 0 where
-    pub left : Option (FileStore D g)
-    pub told : Watched W
-    pub turns : List Turn
-    pub came : (log : List Event) → told_old log → told_new (log ++ events_in turns)
-    pub does : DoesRun world words (status, left)
-        (seen_with (seen_over remaining i i' contents o told) turns) (said_on contents told o')
-        (said_on said e e')
-    pub is : r ≡ record {
-      begins = r.begins;
-      words = words;
-      moments = r.moments;
-      ending = does.ending;
-      streams = with_turns (streams remaining i i' contents o told) turns;
-    }
-    pub tells : (turn now : ℕ) → world.tells turn now → told_by r.moments turn now
-    pub found : IsFound words (λ path. world.holds path r.begins)
-    pub leaves : (next : Image) → MayBeLeft next → Leaves r.begins left next
+-- How that is read which a call works with: its disk, its network, its input, its output and its errors.
+pub record Views (D N R W E : Type 0) : Type 1 where
+  pub disk : Ghosts D
+  pub tells : N → List Event → Type 0
+  pub remaining : R → Known
+  pub contents : W → Known
+  pub said : E → Known
+
+-- what a call works with is read so
+abbrev pub views : {D N R W E : Type 0} → Ghosts D → (N → List Event → Type 0) → (R → Known) → (W → Known)
+    → (E → Known) → Views D N R W E
+views disk tells remaining contents said =
+    record { disk = disk; tells = tells; remaining = remaining; contents = contents; said = said }
+
+-- what a call begins with: its world, its words, its network and its streams
+pub record CallBegun (N R W E : Type 0) : Type 1 where
+  pub world : World
+  pub words : List Text
+  pub network : N
+  pub input : Watched R
+  pub output : Watched W
+  pub errors : Watched E
+
+-- a call begins with these
+abbrev pub call_begun : {N R W E : Type 0} → World → List Text → N → Watched R → Watched W → Watched E
+    → CallBegun N R W E
+call_begun world words network input output errors = record {
+  world = world;
+  words = words;
+  network = network;
+  input = input;
+  output = output;
+  errors = errors;
+}
+
+-- what a call ends with: its exit status, the bytes that may be left, its network and its streams
+pub record CallEnded (N R W E : Type 0) : Type 1 where
+  pub status : ℕ
+  pub MayBeLeft : Image → Type 0
+  pub network : N
+  pub input : Watched R
+  pub output : Watched W
+  pub errors : Watched E
+
+-- a call ends with these
+abbrev pub call_ended : {N R W E : Type 0} → ℕ → (Image → Type 0) → N → Watched R → Watched W → Watched E
+    → CallEnded N R W E
+call_ended status MayBeLeft network input output errors = record {
+  status = status;
+  MayBeLeft = MayBeLeft;
+  network = network;
+  input = input;
+  output = output;
+  errors = errors;
+}
+
+-- The run is what a call that began and ended with these did by the clause of `run`. Its clock tells no other
+-- moments than the run's. Its file held the bytes with which the run begins, and what may be left now may be
+-- left of the files that it left. It ended with its status, and the network told its turns.
+pub record IsCallOf {D N R W E : Type 0} (how : Views D N R W E) (old : CallBegun N R W E)
+    (new : CallEnded N R W E) (r : Run) : Type 0 where
+  pub left : Option (FileStore D how.disk)
+  pub told : Watched W
+  pub turns : List Turn
+  pub came : TellsTurns (how.tells old.network) (how.tells new.network) turns
+  pub does : DoesRun old.world old.words (new.status, left)
+      (seen_with (seen_over how.remaining old.input new.input how.contents old.output told) turns)
+      (said_on how.contents told new.output) (said_on how.said old.errors new.errors)
+  pub is : r ≡ record {
+    begins = r.begins;
+    words = old.words;
+    moments = r.moments;
+    ending = does.ending;
+    streams = with_turns (streams how.remaining old.input new.input how.contents old.output told) turns;
+  }
+  pub tells : TellsOnly old.world.tells r.moments
+  pub found : IsFound old.words (λ path. old.world.holds path r.begins)
+  pub leaves : (next : Image) → new.MayBeLeft next → Leaves r.begins left next
+
+-- Where the file at the path of the words holds these bytes, the call is a run from them up to whatever may
+-- be left, with whatever moments its clock tells.
+abbrev pub IsRunFrom : {D N R W E : Type 0} → Image → Views D N R W E → CallBegun N R W E
+    → CallEnded N R W E → Type 0
+IsRunFrom image how old new = (moments : Moments) → TellsOnly old.world.tells moments
+    → IsFound old.words (λ path. old.world.holds path image)
+    → (r : Run) × (r.begins ≡ image) × (r.moments ≡ moments) × IsCallOf how old new r
+    × ((next : Image) → new.MayBeLeft next → IsRun r next)

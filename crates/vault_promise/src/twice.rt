@@ -1,12 +1,8 @@
 //! Two calls of the program, one after the other, over the same files in memory.
 ghost use Rattle.std.specs.Prelude.{IfSome, map};
-ghost use Rattle.vault_promise.specs.Again.{PipesAgree};
-ghost use Rattle.vault_promise.specs.Between.{files_kept};
-ghost use Rattle.vault_promise.specs.declared.kept.KeptFiles.{KeptFiles};
-ghost use Rattle.vault_promise.specs.Memory.{MayBeLeftIn, bytes_in, memory_world};
-ghost use Rattle.vault_promise.specs.Runs.{Run};
-ghost use Rattle.vault_promise.specs.Witness.{IsCallOf};
-ghost use Rattle.vault_wire.specs.declared.watched.Watched.{Watched};
+ghost use Rattle.vault_promise.specs.Memory.{memory_world};
+ghost use Rattle.vault_promise.specs.MemoryCalls.{AreTwoCalls, handed_on, one_call};
+ghost use Rattle.vault_promise.specs.Witness.{views};
 
 use crate::kept::KeptFiles;
 use sqlite_disk::{Disk, Memory};
@@ -35,17 +31,13 @@ pub fn twice<K: Timekeeper, N: Network, D: Desk, A: AsStr, R: Read, W: Write, E:
     output: &mut Watched<W>,
     errors: &mut Watched<E>,
 ) -> Option<(u8, u8, KeptFiles)>
-    ensures { IfSome result (λ left. (r s : Run) × (middle : KeptFiles) × (n : N) × (o : Watched W)
-        × (e : Watched E)
-        × IsCallOf ⟦<Memory as Disk>⟧ R.remaining W.contents E.contents (N.tells network.old) (N.tells n)
-        (memory_world (K.tells time.now) (D.says desk.now) (bytes_in (files_kept kept)))
-        (map A.text words.now) left.0
-        input.old input.new output.old o errors.old e (MayBeLeftIn (files_kept middle)) r
-        × IsCallOf ⟦<Memory as Disk>⟧ R.remaining W.contents E.contents (N.tells n) (N.tells network.new)
-        (memory_world (K.tells time.now) (D.says desk.now) (bytes_in (files_kept middle)))
-        (map A.text words_again.now) left.1
-        input_again.old input_again.new o output.new e errors.new (MayBeLeftIn (files_kept left.2)) s
-        × ∥ PipesAgree r s ∥₁) }
+    ensures { IfSome result (λ left. AreTwoCalls
+        (views ⟦<Memory as Disk>⟧ N.tells R.remaining W.contents E.contents)
+        (memory_world (K.tells time.now) (D.says desk.now))
+        (one_call (map A.text words.now) input.old input.new left.0)
+        (one_call (map A.text words_again.now) input_again.old input_again.new left.1)
+        (handed_on kept network.old output.old errors.old)
+        (handed_on left.2 network.new output.new errors.new)) }
 {
     let (first, middle) = kept.again(rt, time, network, desk, words, input, output, errors);
     let (second, left) = middle?.again(

@@ -1,12 +1,13 @@
 //! A call of the program, after the runs before it.
-ghost use Rattle.std.specs.Prelude.{◌≡◌, ℕ, IfSome, map};
+ghost use Rattle.std.specs.Prelude.{IfSome, map};
 ghost use Rattle.sqlite_wal.specs.Recovery.{Image};
-ghost use Rattle.vault_app.specs.World.{World, world_at};
+ghost use Rattle.vault_app.specs.World.{world_at};
 ghost use Rattle.vault_promise.specs.Between.{files_kept};
-ghost use Rattle.vault_promise.specs.Kept.{AgreesWith, GoesOn, StandsAfter};
-ghost use Rattle.vault_promise.specs.Memory.{MayBeLeftIn, bytes_in, memory_world};
-ghost use Rattle.vault_promise.specs.Runs.{IsFound, IsRun, Leaves, Moments, Run, told_by};
-ghost use Rattle.vault_promise.specs.Witness.{IsCallOf};
+ghost use Rattle.vault_promise.specs.Kept.{StandsAfter};
+ghost use Rattle.vault_promise.specs.Memory.{MayBeLeftIn, memory_world};
+ghost use Rattle.vault_promise.specs.MemoryCalls.{FollowsAll, IsMemoryCall, handed_on, one_call};
+ghost use Rattle.vault_promise.specs.Runs.{Leaves, Run};
+ghost use Rattle.vault_promise.specs.Witness.{IsRunFrom, call_begun, call_ended, views};
 
 use crate::kept::{KeptFiles, files_of};
 use crate::memory::MemoryPaths;
@@ -46,15 +47,11 @@ pub fn run_again<
     output: &mut Watched<W>,
     errors: &mut Watched<E>,
 ) -> (u8, Option<FileStore<P::Disk>>)
-    ensures { let world : World = world_at P.Paths (K.tells time.now) (D.says desk.now) paths in
-        (image : Image) (moments : Moments)
-        → ((turn now : ℕ) → K.tells time.now turn now → told_by moments turn now)
-        → IsFound (map A.text words.now) (λ path. P.holds paths path image)
-        → (r : Run) × (r.begins ≡ image) × (r.moments ≡ moments)
-        × IsCallOf P.Disk.Disk R.remaining W.contents E.contents (N.tells network.old) (N.tells network.new)
-        world (map A.text words.now) result.0 input.old input.new output.old output.new errors.old
-        errors.new (Leaves image result.1) r
-        × ((next : Image) → Leaves image result.1 next → IsRun r next) }
+    ensures { (image : Image) → IsRunFrom image
+        (views P.Disk.Disk N.tells R.remaining W.contents E.contents)
+        (call_begun (world_at P.Paths (K.tells time.now) (D.says desk.now) paths) (map A.text words.now)
+        network.old input.old output.old errors.old)
+        (call_ended result.0 (Leaves image result.1) network.new input.new output.new errors.new) }
 {
     promise_is_kept::<P, K, D, R, W, E>();
     run(rt, paths, time, network, desk, words, input, output, errors)
@@ -79,14 +76,13 @@ impl KeptFiles {
     ) -> (u8, Option<KeptFiles>)
         // where files are left, this call is a run from the bytes before, follows all runs before it, and
         // agrees with each
-        ensures follows { IfSome result.1 (λ kept. (r : Run) × (r.begins ≡ bytes_in (files_kept self))
-            × IsCallOf ⟦<Memory as Disk>⟧ R.remaining W.contents E.contents (N.tells network.old)
-            (N.tells network.new) (memory_world (K.tells time.now) (D.says desk.now)
-            (bytes_in (files_kept self)))
-            (map A.text words.now) result.0 input.old input.new output.old output.new errors.old errors.new
-            (MayBeLeftIn (files_kept kept)) r
-            × GoesOn (MayBeLeftIn (files_kept self)) r (MayBeLeftIn (files_kept kept))
-            × AgreesWith (MayBeLeftIn (files_kept self)) r) }
+        ensures follows { IfSome result.1 (λ kept. (r : Run) × IsMemoryCall
+            (views ⟦<Memory as Disk>⟧ N.tells R.remaining W.contents E.contents)
+            (memory_world (K.tells time.now) (D.says desk.now))
+            (one_call (map A.text words.now) input.old input.new result.0)
+            (handed_on self network.old output.old errors.old)
+            (handed_on kept network.new output.new errors.new) r
+            × FollowsAll self kept r) }
         // where files are left, some runs led to whatever a stop may leave of them, and what each answered
         // stands in later ones
         ensures stands { IfSome result.1 (λ kept. StandsAfter (MayBeLeftIn (files_kept kept))) }

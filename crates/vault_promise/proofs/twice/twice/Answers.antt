@@ -5,16 +5,18 @@ use Rattle.vault_promise.proofs.twice.twice.Goals as goal
 
 pub returns : goal.returns
 returns g c =
-    let (r, begins, call, goes, agrees) =
+    let (r, call, goes, agrees) =
     some_at _ _ c.in_ok-middle.field-0 c.in_ok-middle.was c.again-first.ensures.follows in
-    let (s, begins_again, call_again, goes_again, agrees_again) =
+    let (s, call_again, goes_again, agrees_again) =
     some_at _ _ c.in_ok-left.field-0 c.in_ok-left.was c.again-second.ensures.follows in (
       r,
       s,
-      c.in_ok-middle.field-0,
-      c.again-first.new.network,
-      c.again-first.new.output,
-      c.again-first.new.errors,
+      record {
+        files = c.in_ok-middle.field-0;
+        network = c.again-first.new.network;
+        output = c.again-first.new.output;
+        errors = c.again-first.new.errors;
+      },
       call,
       call_again,
       ∥∥₁_elim c.args.kept.kept ∥∥₁_prop (λ (V, rs, have). agrees_again V rs [] r (goes V rs have)),

@@ -15,18 +15,20 @@ returns-in-Some-clause-follows g c =
     let goes = goes_from (MayBeLeftIn c.args.self.files) (MayBeLeftIn c.files_of.result) image r begins
     (inl refl, inl refl) (λ next may. is_run next (leaves next may)) in (
       r,
-      begins,
-      record {
-        left = call.left;
-        told = call.told;
-        turns = call.turns;
-        came = call.came;
-        does = call.does;
-        is = call.is;
-        tells = call.tells;
-        found = call.found;
-        leaves = λ next may. call.leaves next (leaves next may);
-      },
+      (
+        begins,
+        record {
+          left = call.left;
+          told = call.told;
+          turns = call.turns;
+          came = call.came;
+          does = call.does;
+          is = call.is;
+          tells = call.tells;
+          found = call.found;
+          leaves = λ next may. call.leaves next (leaves next may);
+        },
+      ),
       goes,
       agrees_with _ _ r (bytes_in c.files_of.result) c.answers_again.ensures goes (inl refl, inl refl),
     )
