@@ -9,16 +9,18 @@ use Rattle.vault_app.proofs.run.run.Goals as goal
 pub returns-clause-does : goal.returns-clause-does
 returns-clause-does g c = (
   c.ended-it.new.output,
-  c.ended-it.ensures.does.0,
-  c.ended-it.ensures.does.1,
-  record {
-    ending = c.ended-it.result.0.ending;
-    exits = c.report.ensures.status;
-    why = c.as_str.result.now;
-    few = subst HasFewDigits (sym c.as_str.ensures.value) c.ended-it.ensures.few;
-    says = c.report.ensures.said;
-    does = c.ended-it.ensures.does.2;
-  },
+  (
+    c.ended-it.ensures.does.0,
+    c.ended-it.ensures.does.1,
+    record {
+      ending = c.ended-it.result.0.ending;
+      exits = c.report.ensures.status;
+      why = c.as_str.result.now;
+      few = subst HasFewDigits (sym c.as_str.ensures.value) c.ended-it.ensures.few;
+      says = c.report.ensures.said;
+      does = c.ended-it.ensures.does.2;
+    },
+  ),
 )
 
 -- the status of the run is that of its ending

@@ -5,9 +5,9 @@ use Rattle.vault_promise.proofs.twice.twice.Goals as goal
 
 pub returns : goal.returns
 returns g c =
-    let (r, call, goes, agrees) =
+    let (r, call, follows) =
     some_at _ _ c.in_ok-middle.field-0 c.in_ok-middle.was c.again-first.ensures.follows in
-    let (s, call_again, goes_again, agrees_again) =
+    let (s, call_again, follows_again) =
     some_at _ _ c.in_ok-left.field-0 c.in_ok-left.was c.again-second.ensures.follows in (
       r,
       s,
@@ -19,5 +19,6 @@ returns g c =
       },
       call,
       call_again,
-      ∥∥₁_elim c.args.kept.kept ∥∥₁_prop (λ (V, rs, have). agrees_again V rs [] r (goes V rs have)),
+      ∥∥₁_elim c.args.kept.kept ∥∥₁_prop (λ (V, rs, have).
+          follows_again.1 V rs [] r (follows.0 V rs have)),
     )

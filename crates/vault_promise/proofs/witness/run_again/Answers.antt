@@ -4,7 +4,8 @@ use Rattle.vault_promise.proofs.witness.run_again.Goals as goal
 
 pub returns : goal.returns
 returns g c image moments so found =
-    let (told, turns, came, does) = c.run.ensures.does in (
+    let (told, seen) = c.run.ensures.does in
+    let (turns, came, does) = seen in (
       record {
         begins = image;
         words = map g.A.AsStr.text c.args.words.now;
