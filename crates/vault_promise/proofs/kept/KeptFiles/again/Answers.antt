@@ -29,7 +29,10 @@ returns-in-Some-clause-follows g c =
           leaves = λ next may. call.leaves next (leaves next may);
         },
       ),
-      (goes, agrees_with _ _ r (bytes_in c.files_of.result) c.answers_again.ensures goes (inl refl, inl refl)),
+      (
+        goes,
+        agrees_with _ _ r (bytes_in c.files_of.result) c.answers_again.ensures goes (inl refl, inl refl),
+      ),
     )
 
 pub invariant_of-result : goal.invariant_of-result
