@@ -19,15 +19,15 @@ abbrev pub During : {S : Type 0} → Ghosts S → Transaction S → Transaction 
     → Type 0
 During g old new Does = Does (state g old.conn.now) (state g new.conn.now)
 
--- ---- a call over tables of a schema, where t has claims on their rows; on an honest disk, with Ok
+-- ---- a call that answers Ok on an honest disk, where `claims t` are the rows that make the tables hold t
 
--- what it answers is so of what the tables had
+-- whatever t the tables held, the answer is so of it
 abbrev pub TellsStood : {T R E : Type 0} → Schema → (T → List Claim) → Result R E → (T → R → Type 0) → State
     → State → Type 0
 TellsStood s claims result Is old new =
     HasCleanDisk new → IfOk result (λ x. (t : _) → Stands s (claims t) old.now → Is t x)
 
--- within a transaction, what it answers is so of what the tables have, and they have it still
+-- within a transaction: whatever t the tables held, the answer is so of it, and they hold it still
 abbrev pub TellsWithin : {T R E : Type 0} → Schema → (T → List Claim) → Result R E → (T → R → Type 0)
     → State → State → Type 0
 TellsWithin s claims result Is old new =
@@ -35,7 +35,7 @@ TellsWithin s claims result Is old new =
     → IfOk result (λ x. (base : Database) (t : _) → Within s (claims t) base old
     → Is t x × Within s (claims t) base new)
 
--- within a transaction, the tables have this of what they had
+-- within a transaction: whatever t the tables held, they hold `after t` now
 abbrev pub Becomes : {T R E : Type 0} → Schema → (T → List Claim) → Result R E → (T → T) → State → State
     → Type 0
 Becomes s claims result after old new =
