@@ -14,7 +14,7 @@ CRATES = Path(__file__).resolve().parent.parent / "crates"
 MAY_BE = {
     "contracts of more than 8 clauses": 0,
     "contracts of more than 18 lines": 0,
-    "clauses of more than 200 characters": 10,
+    "clauses of more than 200 characters": 8,
     "definitions of more than 6 places": 0,
 }
 

@@ -88,6 +88,7 @@ def of_outages(tally, machine, step):
     disks.full(tally, machine, step)
     disks.read_only(step)
     disks.no_inode(step)
+    disks.btrfs(machine, step)
 
 
 def main(program, repository, part, *words):

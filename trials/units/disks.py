@@ -1,11 +1,18 @@
-"""Volumes that aren't mounted, are full, have no inode or are read-only."""
+"""Volumes that aren't mounted, are full, have no inode, are read-only or are a btrfs."""
 
 from shared.asking import Asked
+from shared.machine import must
 
-# A volume in memory for the vault's folder, of so many KiB and inodes; its file is taken along.
-VOLUME = """systemctl stop vault; cp -a /var/lib/vault /srv/kept
-mount -t tmpfs -o size={size}k,nr_inodes={inodes},mode=700,uid=vault,gid=vault none /var/lib/vault
+# A volume for the vault's folder, by the words of its mount; the file is taken along.
+MOUNTED = """systemctl stop vault; cp -a /var/lib/vault /srv/kept
+mount {words} /var/lib/vault
 cp -a /srv/kept/. /var/lib/vault/; : > /srv/told
+"""
+# One in memory, of so many KiB and inodes.
+VOLUME = MOUNTED.format(words="-t tmpfs -o size={size}k,nr_inodes={inodes},mode=700,uid=vault,gid=vault none")
+# What a machine needs to mount a file as a disk.
+LOOPS = """[ -e /dev/loop-control ] || mknod /dev/loop-control c 10 237
+for disk in $(seq 0 15); do [ -e /dev/loop$disk ] || mknod /dev/loop$disk b 7 $disk; done
 """
 BACK = """systemctl stop vault; umount /var/lib/vault; rm -rf /var/lib/vault/* /srv/kept/none
 cp -a /srv/kept/. /var/lib/vault/; rm -rf /srv/kept; systemctl reset-failed vault
@@ -66,3 +73,14 @@ systemctl start --no-block vault
     again = "rm /var/lib/vault/[1-9]*\n" + awaited("$lib/answers vault", 60)
     step("and serves once there is one", again, "", seconds=90)
     step("the last volume goes", BACK + "systemctl start vault", "")
+
+
+def btrfs(machine, step):
+    """A volume that is a btrfs is warned of as the service starts, which serves all the same."""
+    disk = f"{machine.folder}/srv/btrfs.img"
+    must("truncate", "-s", "256M", disk)
+    must("mkfs.btrfs", "-q", disk)
+    started = LOOPS + MOUNTED.format(words="-o loop /srv/btrfs.img") + "systemctl start vault\n"
+    warned = "journalctl -u vault -p warning -o cat --no-pager | tail -n 1\n" + awaited("$lib/answers vault", 60)
+    step("a btrfs is warned of", started + warned, "^the volume of /var/lib/vault/vault.db is a btrfs: ", seconds=90)
+    step("that volume goes", BACK + "systemctl start vault", "")

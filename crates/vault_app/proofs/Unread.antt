@@ -145,8 +145,8 @@ module _ (at : Outside) (unread unsent : Type 0) (s : Streams) where
   rows_of (task.Sweep who now Clock) w (inr (inr (f, is, silent, h))) = absurd (cc is)
   rows_of (task.Batch who now digits) w h = tt
   rows_of (task.Pipe now digits) w h = h
-  rows_of (task.Serve port connections lists) w (inl (some, none, h)) = h
-  rows_of (task.Serve port connections lists) w (inr h) = h.1
+  rows_of (task.Serve it) w (inl (some, none, h)) = h
+  rows_of (task.Serve it) w (inr h) = h.1
   rows_of (task.Show it) w h = h
 
   unread_by : (t : Task) (w : Passage) (n : ℕ)

@@ -56,7 +56,7 @@ has_lives (SetMerchants rows now) is = listed_lives now rows.items is
 has_lives (Sweep who now giver) is = tt
 has_lives (Batch who now digits) is = tt
 has_lives (Pipe now digits) is = tt
-has_lives (Serve port connections lists) is = file_lives lists.merchants is.0
+has_lives (Serve it) is = file_lives it.lists.merchants is.0
 has_lives (Show it) is = tt
 
 -- the names of a row are names, and its end is a moment

@@ -37,6 +37,5 @@ AreValues (Sweep who now giver) = IsName who.caller × IsName who.merchant × Is
 AreValues (Batch who now digits) =
     IsName who.caller × IsName who.merchant × IfSome now IsMoment × IfSome digits IsDrawing
 AreValues (Pipe now digits) = IfSome now IsMoment × IfSome digits IsDrawing
-AreValues (Serve port connections lists) = IfSome lists.merchants AreMerchantValues
-    × IfSome lists.rights AreRightValues
+AreValues (Serve it) = IfSome it.lists.merchants AreMerchantValues × IfSome it.lists.rights AreRightValues
 AreValues (Show it) = Unit {0}

@@ -27,6 +27,7 @@ use Rattle.vault_jobs.specs.declared.task.Task.{Task}
 use Rattle.vault_jobs.specs.declared.task.Task.TheVariants.{Change, Give, Settle, SetMerchants, Sweep, Serve}
 use Rattle.vault_jobs.specs.declared.task.Task.TheVariants.{Show}
 use Rattle.vault_jobs.specs.declared.lists.Lists.{Lists}
+use Rattle.vault_jobs.specs.declared.serve_task.ServeTask.{ServeTask}
 use Rattle.vault_jobs.specs.declared.clock.Giver.{Giver}
 use Rattle.vault_jobs.specs.declared.clock.Giver.TheVariants.{Words, Clock}
 use Rattle.vault_jobs.specs.declared.show.Shown.{Shown}
@@ -220,16 +221,15 @@ module _ {at : Outside} {w : Passage} {r : Result Outcome Stop} {unread unsent :
     breaks = (breaks, λ _. inr tt);
   }
 
-  pub serve_done : (port most : ℕ) (lists : Lists) → unread
-      → BreaksBy (Serve port most lists) r w.broken
-      → Works at (Serve port most lists) w r (seen_as unread unsent s)
-      → Does at (Serve port most lists) w r None (seen_as unread unsent s)
-  serve_done port most lists calm breaks h = record {
+  pub serve_done : (it : ServeTask) → unread → BreaksBy (Serve it) r w.broken
+      → Works at (Serve it) w r (seen_as unread unsent s)
+      → Does at (Serve it) w r None (seen_as unread unsent s)
+  serve_done it calm breaks h = record {
     works = h;
-    noted = unnoted w r (Serve port most lists) (λ V. refl);
+    noted = unnoted w r (Serve it) (λ V. refl);
     begun = calm;
     alone = tt;
-    caused = listed_caused unsent s.sent_old s.sent_new s at port most lists w r s.turns h;
+    caused = listed_caused unsent s.sent_old s.sent_new s at it.port it.connections it.lists w r s.turns h;
     breaks = breaks;
   }
 

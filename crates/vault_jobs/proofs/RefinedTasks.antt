@@ -105,8 +105,8 @@ module _ (H : Type 0) (O N : Content → Type 0) (L : Content → Content → Ty
   works at (Batch who now digits) r unread unsent h =
       batch_ends at.tells who now digits r unread unsent h
   works at (Pipe now digits) r unread unsent h = pipe_ends at.tells now digits r unread unsent h
-  works at (Serve port connections lists) r unread unsent h =
-      listed_serve_ends at port connections lists r unsent _ _ _ _ h
+  works at (Serve it) r unread unsent h =
+      listed_serve_ends at it.port it.connections it.lists r unsent _ _ _ _ h
   works at (Show it) r unread unsent h =
       show_ends H O N L w was kept torn (shown_text it) r unsent _ _ _ h
 

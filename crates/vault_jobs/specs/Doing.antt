@@ -55,6 +55,7 @@ use Rattle.vault_jobs.specs.declared.task.Task.{Task}
 use Rattle.vault_jobs.specs.declared.task.Task.TheVariants.{Change, Give, Settle, SetMerchants, Sweep, Batch}
 use Rattle.vault_jobs.specs.declared.task.Task.TheVariants.{Pipe, Serve, Show}
 use Rattle.vault_jobs.specs.declared.lists.Lists.{Lists}
+use Rattle.vault_jobs.specs.declared.serve_task.ServeTask.{ServeTask}
 use Rattle.vault_changes.specs.declared.changes.Changes.{Changes}
 use Rattle.vault_changes.specs.Changes.{AreChangesOf, settled_line}
 use Rattle.vault_jobs.specs.ListingLines.{shown_text}
@@ -155,6 +156,10 @@ pub record Serving : Type 1 where
 abbrev pub serving_of : Turns → Asking → ℕ → ℕ → Serving
 serving_of tells asks port most = record { tells = tells; asks = asks; port = port; most = most }
 
+-- the service that a task asks for, by what is told while it is done
+abbrev pub serving_by : Outside → ServeTask → Serving
+serving_by at it = serving_of at.tells (asked_of at it.lists) it.port it.connections
+
 -- How a service on a port ends: it said where it listens, and in its turns each connection that came was
 -- answered, and what was asked for between two was done; or it wasn't begun, for want of digits or of a port,
 -- or since the writer failed, and there was no turn.
@@ -232,12 +237,19 @@ PortServed over old new it result = SomeTurns over.0 old.0 new.0
     (ServeEnds (serving_of it.0 (it.1 it.0) it.2 it.3) (passage over.1 old.1 new.1) result
     (output_of over.2 old.2 new.2))
 
--- The same of a service that may follow lists, whose files have these texts at these looks.
-abbrev pub ListsServed : {N T W : Type 0} → (N → List Event → Type 0) × Ghosts T × (W → Known)
-    → N × Holder T × Watched W → N × Holder T × Watched W → Turns × (List ℕ → Looks) × Lists × ℕ × ℕ
+-- The same of the service that a task asks for, whose lists have these texts at these looks.
+abbrev pub TaskServed : {N T W : Type 0} → (N → List Event → Type 0) × Ghosts T × (W → Known)
+    → N × Holder T × Watched W → N × Holder T × Watched W → Turns × (List ℕ → Looks) × ServeTask
     → Result Outcome Stop → Type 0
-ListsServed over old new it result = SomeTurns over.0 old.0 new.0
-    (ListedServeEnds (serving_of it.0 (asked_at it.1 it.2 it.0) it.3 it.4) it.2
+TaskServed over old new (tells, looks, it) result =
+    PortServed over old new (tells, asked_at looks it.lists, it.port, it.connections) result
+
+-- The same, with what its lists ask for before it listens.
+abbrev pub ListsServed : {N T W : Type 0} → (N → List Event → Type 0) × Ghosts T × (W → Known)
+    → N × Holder T × Watched W → N × Holder T × Watched W → Turns × (List ℕ → Looks) × ServeTask
+    → Result Outcome Stop → Type 0
+ListsServed over old new (tells, looks, it) result = SomeTurns over.0 old.0 new.0
+    (ListedServeEnds (serving_by (outside tells looks) it) it.lists
     (passage over.1 old.1 new.1) result (output_of over.2 old.2 new.2))
 
 -- what a task does with a vault, and what goes out, by how it ends
@@ -250,9 +262,8 @@ Works at (SetMerchants rows now) w result v = SetEnds now rows.items w result (o
 Works at (Sweep who now giver) w result v = TimedSweepEnds giver who now w result (output_in v)
 Works at (Batch who now digits) w result v = BatchEnds (AreGiven at.tells now digits) who w result v
 Works at (Pipe now digits) w result v = PipeEnds (AreGiven at.tells now digits) w result v
-Works at (Serve port connections lists) w result v =
-    ListedServeEnds (serving_of at.tells (asked_of at lists) port connections) lists w result (output_in v)
-    v.streams.turns
+Works at (Serve it) w result v =
+    ListedServeEnds (serving_by at it) it.lists w result (output_in v) v.streams.turns
 Works at (Show it) w result v = ShowEnds (shown_text it) w result (output_in v)
 
 -- What a task does: it works so; what is noted of it is exactly what is to be; the input is unread, but by a

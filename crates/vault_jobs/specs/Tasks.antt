@@ -39,7 +39,7 @@ purged_line count = codes "purged " ++ decimal count ++ codes "\n"
 abbrev pub IsProper : Task → Type 0
 IsProper (Change c) = HasLivesInRange c
 IsProper (SetMerchants rows now) = All HasLives rows.items
-IsProper (Serve port connections lists) = IfSome lists.merchants (λ it. All HasLives it.rows.items)
+IsProper (Serve it) = IfSome it.lists.merchants (λ list. All HasLives list.rows.items)
 IsProper task = Unit {0}
 
 -- it carries out commands of its own, which may be refused: so does a service that follows a list
@@ -49,7 +49,7 @@ IsOfCommands (Give rows now) = Unit {0}
 IsOfCommands (Settle rows now) = Unit {0}
 IsOfCommands (SetMerchants rows now) = Unit {0}
 IsOfCommands (Sweep who now giver) = Unit {0}
-IsOfCommands (Serve port connections lists) = follows lists ≡ true
+IsOfCommands (Serve it) = follows it.lists ≡ true
 IsOfCommands task = ⊥
 
 -- the input is unread, but by a batch and messages
@@ -60,7 +60,7 @@ IsTaskBegun task unread = unread
 
 -- there was no turn, but of a service
 abbrev pub HasNoTurns : Task → Streams → Type 0
-HasNoTurns (Serve port connections lists) s = Unit {0}
+HasNoTurns (Serve it) s = Unit {0}
 HasNoTurns task s = s.turns ≡ []
 
 -- the store failed

@@ -11,6 +11,7 @@ pub mod listening;
 pub mod lists;
 pub mod note;
 pub mod pipe;
+pub mod serve_task;
 mod serving;
 pub mod show;
 mod shown;

@@ -19,9 +19,9 @@ use crate::batch::batch_input;
 use crate::changed::do_change;
 use crate::clock::Giver;
 use crate::grants::give_all;
-use crate::lists::Lists;
 use crate::note::Note;
 use crate::pipe::pipe;
+use crate::serve_task::ServeTask;
 use crate::serving::serve_lists;
 use crate::show::Shown;
 use crate::shown::text_of;
@@ -66,9 +66,9 @@ pub enum Task {
     Batch(Asker, Option<Moment>, Option<Digits>),
     /// Answers the messages of the input, with this moment and these digits, where they are fixed.
     Pipe(Option<Moment>, Option<Digits>),
-    /// Serves so many connections on a port. Before that, and again whenever they change, the merchants of a
-    /// list are set and the rights made exactly those of a list, where there are such lists.
-    Serve(u16, u64, Lists),
+    /// Serves connections. Before that, and again whenever they change, the merchants of a list are set and
+    /// the rights made exactly those of a list, where there are such lists.
+    Serve(ServeTask),
     /// Says what the vault holds.
     Show(Shown),
 }
@@ -316,20 +316,10 @@ pub fn do_task<K: Timekeeper, N: Network, D: Desk, R: Read, W: Write, T: Tables>
                 None,
             )
         }
-        Task::Serve(port, connections, ref lists) => {
-            let ended = serve_lists(
-                rt,
-                time,
-                network,
-                desk,
-                port,
-                connections,
-                lists,
-                vault,
-                output,
-            );
+        Task::Serve(ref service) => {
+            let ended = serve_lists(rt, time, network, desk, service, vault, output);
             (ended, None)
-        },
+        }
         Task::Show(ref shown) => (do_show(rt.alloc(), vault, shown, output), None),
     }
 }

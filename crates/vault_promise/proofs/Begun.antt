@@ -16,12 +16,13 @@ use Rattle.vault_store.specs.Listed.{merchant_rows}
 use Rattle.vault_store.specs.declared.vault.Fault.TheVariants.{Memory, Store, Reopen}
 use Rattle.vault_changes.proofs.GivenRights.{run_more}
 use Rattle.vault_live.specs.Kinds.{merchants_changes, rights_changes}
-use Rattle.vault_jobs.specs.Doing.{BeginEnds, ListedServeEnds, behind, serving_of}
+use Rattle.vault_jobs.specs.Doing.{BeginEnds, ListedServeEnds, behind, serving_by}
 use Rattle.vault_jobs.specs.Lists.{asked_of, begin_of, first_of}
 use Rattle.vault_jobs.specs.Outside.{Outside}
 use Rattle.vault_jobs.specs.Streams.{Streams, output_with}
 use Rattle.vault_jobs.specs.declared.lists.ListFile.{ListFile}
 use Rattle.vault_jobs.specs.declared.lists.Lists.{Lists}
+use Rattle.vault_jobs.specs.declared.serve_task.ServeTask.{ServeTask}
 use Rattle.vault_jobs.specs.declared.stop.Stop.{Stop}
 use Rattle.vault_jobs.specs.declared.stop.Stop.TheVariants as stop
 use Rattle.vault_jobs.specs.declared.task.Outcome.{Outcome as Ended}
@@ -75,18 +76,18 @@ begin_proper lists V sound merchants rights =
 module _ (tells : Turns) (w : Passage) (V : Content) (b : IsBefore w V) (sound : Sound V) (s : Streams)
     (unsent : Type 0) (F : Type 0) where
   -- what its lists ask for isn't all done
-  begin_works : (port connections : ℕ) (lists : Lists) → AllProper (begin_of lists V) → s.turns ≡ []
+  begin_works : (service : ServeTask) → AllProper (begin_of service.lists V) → s.turns ≡ []
       → (r : Result Ended Stop) → (F → r ≡ Ok outcome.Done)
-      → BeginEnds lists w r unsent → Works tells w V (task.Serve port connections lists) F s
-  begin_works port connections lists proper none r fin h = by_end r fin h
+      → BeginEnds service.lists w r unsent → Works tells w V (task.Serve service) F s
+  begin_works service proper none r fin h = by_end r fin h
     where
       t : Task
-      t = task.Serve port connections lists
+      t = task.Serve service
 
       cs : List Command
-      cs = begin_of lists V
+      cs = begin_of service.lists V
 
-      by_end : (r : Result Ended Stop) → (F → r ≡ Ok outcome.Done) → BeginEnds lists w r unsent
+      by_end : (r : Result Ended Stop) → (F → r ≡ Ok outcome.Done) → BeginEnds service.lists w r unsent
           → Works tells w V t F s
       by_end (Ok outcome.Done) fin h = absurd h
       by_end (Ok (outcome.Refused n)) fin (silent, h) =
@@ -149,22 +150,20 @@ module _ (tells : Turns) (w : Passage) (V : Content) (b : IsBefore w V) (sound :
 
 -- a service that may follow lists
 pub listed_serve_works : (at : Outside) (w : Passage) (V : Content) (b : IsBefore w V) (sound : Sound V)
-    (s : Streams) (unsent : Type 0) (quiet : unsent → IsQuiet s) (F : Type 0) (port connections : ℕ)
-    (lists : Lists) → AreValues (task.Serve port connections lists) →
-    (r : Result Ended Stop) → (F → r ≡ Ok outcome.Done)
-    → ListedServeEnds (serving_of at.tells (asked_of at lists) port connections) lists w r
+    (s : Streams) (unsent : Type 0) (quiet : unsent → IsQuiet s) (F : Type 0) (service : ServeTask)
+    → AreValues (task.Serve service) → (r : Result Ended Stop) → (F → r ≡ Ok outcome.Done)
+    → ListedServeEnds (serving_by at service) service.lists w r
     (output_with unsent s.sent_old s.sent_new s.writer) s.turns
-    → Works at.tells w V (task.Serve port connections lists) F s
-listed_serve_works at w V b sound s unsent quiet F port connections lists values r fin
-    (inl (some, none, h)) =
-    begin_works at.tells w V b sound s unsent F port connections lists
-    (begin_proper lists V sound values.0 values.1) none r fin h
-listed_serve_works at w V b sound s unsent quiet F port connections lists values r fin
-    (inr (of, h, unfailed)) =
+    → Works at.tells w V (task.Serve service) F s
+listed_serve_works at w V b sound s unsent quiet F service values r fin (inl (some, none, h)) =
+    begin_works at.tells w V b sound s unsent F service
+    (begin_proper service.lists V sound values.0 values.1) none r fin h
+listed_serve_works at w V b sound s unsent quiet F service values r fin (inr (of, h, unfailed)) =
+    let lists : Lists = service.lists in
     let cs : List Command = begin_of lists V in
     let inner = serve_works at.tells (asked_of at lists) (asked_of (seen at.tells) lists)
     (asks_proper at lists) (asks_up at lists) (behind (begin_of lists) w) (run cs V) (b.0, (V, b.1, refl))
-    s.turns port connections r unsent s h in
+    s.turns service.port service.connections r unsent s h in
     record {
       answered = cs ++ inner.answered;
       undecided = inner.undecided;

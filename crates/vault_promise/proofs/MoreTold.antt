@@ -145,9 +145,9 @@ module _ (tells more : Turns) (so : (turn now : ℕ) → tells turn now → more
     went,
   )
   tells_more (task.Pipe now digits) V cs s told = answered_more now digits V cs s told
-  tells_more (task.Serve port connections lists) V cs s (inl none) = inl none
-  tells_more (task.Serve port connections lists) V cs s (inr (rest, is, done, told)) =
-      inr (rest, is, done, all_more lists _ s.turns rest told)
+  tells_more (task.Serve service) V cs s (inl none) = inl none
+  tells_more (task.Serve service) V cs s (inr (rest, is, done, told)) =
+      inr (rest, is, done, all_more service.lists _ s.turns rest told)
   tells_more (task.Show it) V cs s told = told
 
   heard_next : (now : Option ℕ) (digits : Option (List ℕ)) (s : Streams) (cs : List Command) (x : Command)
@@ -173,9 +173,9 @@ module _ (tells more : Turns) (so : (turn now : ℕ) → tells turn now → more
   next_more (task.Sweep who now giver) V cs s x next = next
   next_more (task.Batch who now digits) V cs s x next = next
   next_more (task.Pipe now digits) V cs s x next = heard_next now digits s cs x next
-  next_more (task.Serve port connections lists) V cs s x (inl first) = inl first
-  next_more (task.Serve port connections lists) V cs s x (inr (rest, is, next)) =
-      inr (rest, is, last_more lists _ s.turns rest x next)
+  next_more (task.Serve service) V cs s x (inl first) = inl first
+  next_more (task.Serve service) V cs s x (inr (rest, is, next)) =
+      inr (rest, is, last_more service.lists _ s.turns rest x next)
   next_more (task.Show it) V cs s x next = next
 
   pub some_more : (t : Task) (V : Content) (cs : List Command) (s : Streams) (o : Option Command)

@@ -97,8 +97,8 @@ works at (task.Batch who now digits) w V b sound s r it unread unsent still quie
     batch_works at.tells who now digits values.0 values.1 w V b s F r unread unsent quiet h.works
 works at (task.Pipe now digits) w V b sound s r it unread unsent still quiet values F fin h =
     pipe_works at.tells now digits w V b s F r unread unsent still quiet h.works
-works at (task.Serve port most lists) w V b sound s r it unread unsent still quiet values F fin h =
-    listed_serve_works at w V b sound s unsent quiet F port most lists values r fin h.works
+works at (task.Serve service) w V b sound s r it unread unsent still quiet values F fin h =
+    listed_serve_works at w V b sound s unsent quiet F service values r fin h.works
 works at (task.Show shown) w V b sound s r it unread unsent still quiet values F fin h =
     show_works at.tells w V b sound s unsent quiet F shown r fin h.works
 

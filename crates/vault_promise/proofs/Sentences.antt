@@ -158,8 +158,8 @@ module _ (due : OnlyDueIsGiven) (texts : EachIsDue) (faults : FaultsTellNoNumber
       (in_all (Asks who) first more row (subst (All (Asks who)) is asked))
       gives.caller gives.merchant gives.token gives.now (wanted ∙ ap Ok gives.asks)
   are_due tells (task.Pipe now digits) W cs s it = due_texts tells now digits W s it
-  are_due tells (task.Serve port connections lists) W cs s (inl none) = tt
-  are_due tells (task.Serve port connections lists) W cs s (inr (done, it)) = due_turns tells _ s.turns it
+  are_due tells (task.Serve service) W cs s (inl none) = tt
+  are_due tells (task.Serve service) W cs s (inr (done, it)) = due_turns tells _ s.turns it
   are_due tells (task.Show it) W cs s shown = tt
 
   none_else : (V : Content) (c : Option Command) (rs : List Run) (end : Image) (come : Come V c rs end)

@@ -191,11 +191,11 @@ texts_stand tells (task.Batch who now digits) W cs s Later stand (xs, asked, are
 }
 texts_stand tells (task.Pipe now digits) W cs s Later stand told =
     messages_stand tells now digits W cs s Later stand told
-texts_stand tells (task.Serve port connections lists) W cs s Later stand (inl (k, is, none)) =
-    subst (λ ts. TurnsStand tells (run (begin_of lists W) W) ts Later) (sym none) tt
-texts_stand tells (task.Serve port connections lists) W cs s Later stand (inr (more, is, done, told)) =
-    let first : List Command = begin_of lists W in
-    turns_stand tells (asked_of (seen tells) lists) s.turns (run first W) more Later
+texts_stand tells (task.Serve service) W cs s Later stand (inl (k, is, none)) =
+    subst (λ ts. TurnsStand tells (run (begin_of service.lists W) W) ts Later) (sym none) tt
+texts_stand tells (task.Serve service) W cs s Later stand (inr (more, is, done, told)) =
+    let first : List Command = begin_of service.lists W in
+    turns_stand tells (asked_of (seen tells) service.lists) s.turns (run first W) more Later
     (later_stand W cs first more Later is stand) told
 texts_stand tells t W cs s Later stand told = tt
 

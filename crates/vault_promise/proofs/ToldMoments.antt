@@ -56,8 +56,8 @@ task_told tells (task.Batch who now digits) W cs s (it, asked) = each_told tells
     (subst (λ xs. AreGiven tells now digits (pairs_of xs)) (sym (append-nil it.rows)) it.read.given)
 task_told tells (task.Pipe now digits) W cs s it =
     each_told tells now digits it.exchanges it.heard.more it.heard.given
-task_told tells (task.Serve port connections lists) W cs s (inl none) = tt
-task_told tells (task.Serve port connections lists) W cs s (inr (done, it)) = turns_told tells _ s.turns it
+task_told tells (task.Serve service) W cs s (inl none) = tt
+task_told tells (task.Serve service) W cs s (inr (done, it)) = turns_told tells _ s.turns it
 task_told tells (task.Show it) W cs s shown = tt
 
 pub all_told : (V : Content) (c : Option Command) (rs : List Run) (end : Image) (come : Come V c rs end)

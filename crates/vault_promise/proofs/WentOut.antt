@@ -98,12 +98,12 @@ went_out tells (task.Batch who now digits) W cs s Is each (xs, asked, are, read,
   asked,
 )
 went_out tells (task.Pipe now digits) W cs s Is each told = texts_tell tells now digits W cs s Is each told
-went_out tells (task.Serve port connections lists) W cs s Is each (inl (k, is, none)) = inl none
-went_out tells (task.Serve port connections lists) W cs s Is each (inr (more, is, done, told)) =
-    let first : List Command = begin_of lists W in
+went_out tells (task.Serve service) W cs s Is each (inl (k, is, none)) = inl none
+went_out tells (task.Serve service) W cs s Is each (inr (more, is, done, told)) =
+    let first : List Command = begin_of service.lists W in
     inr (
       done,
-      turns_tell tells (asked_of (seen tells) lists) s.turns (run first W) more Is
+      turns_tell tells (asked_of (seen tells) service.lists) s.turns (run first W) more Is
           (each_later W cs first more Is is each) told,
     )
 went_out tells (task.Show it) W cs s Is each told = told

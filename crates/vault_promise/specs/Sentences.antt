@@ -131,8 +131,8 @@ abbrev pub WentOut : Turns → Task → Content → List Command → Streams →
 WentOut tells (Batch who now digits) W cs s Is =
     (it : LinesTell tells now digits W s Is) × All (Asks who) it.rows
 WentOut tells (Pipe now digits) W cs s Is = TextsTell tells now digits W s Is
-WentOut tells (Serve port connections lists) W cs s Is =
-    (let first = begin_of lists W in
+WentOut tells (Serve service) W cs s Is =
+    (let first = begin_of service.lists W in
     (s.turns ≡ []) ⊎ AreDone (length first) first W × TurnsTell tells (run first W) s.turns Is)
 WentOut tells (Sweep who now giver) W cs s Is = (IsQuiet s ⊎ AllDone (Sweep who now giver) W cs)
     × ((tokens : List Bytes) × (cs ≡ purges_at who now tokens) × AreSwept who now tokens W
@@ -189,9 +189,9 @@ abbrev pub AreDue : (tells : Turns) (t : Task) (W : Content) (cs : List Command)
 AreDue tells (Batch who now digits) W cs s (it, asked) =
     EachAsked W it.rows (λ U x. (number : Bytes) → ¬ (reply U x ≡ Number number))
 AreDue tells (Pipe now digits) W cs s it = AreDueTexts tells now digits W s it
-AreDue tells (Serve port connections lists) W cs s (inl none) = Unit {0}
-AreDue tells (Serve port connections lists) W cs s (inr (done, it)) =
-    AreDueTurns tells (run (begin_of lists W) W) s.turns it
+AreDue tells (Serve service) W cs s (inl none) = Unit {0}
+AreDue tells (Serve service) W cs s (inr (done, it)) =
+    AreDueTurns tells (run (begin_of service.lists W) W) s.turns it
 AreDue tells t W cs s it = Unit {0}
 
 abbrev pub NoneElse : (V : Content) (c : Option Command) (rs : List Run) (end : Image) → Come V c rs end
@@ -235,9 +235,9 @@ abbrev pub TaskTold : (tells : Turns) (t : Task) (W : Content) (cs : List Comman
     → WentOut tells t W cs s IsAnything → Type 0
 TaskTold tells (Batch who now digits) W cs s (it, asked) = EachTold tells now it.rows
 TaskTold tells (Pipe now digits) W cs s it = EachTold tells now it.exchanges
-TaskTold tells (Serve port connections lists) W cs s (inl none) = Unit {0}
-TaskTold tells (Serve port connections lists) W cs s (inr (done, it)) =
-    TurnsTold tells (run (begin_of lists W) W) s.turns it
+TaskTold tells (Serve service) W cs s (inl none) = Unit {0}
+TaskTold tells (Serve service) W cs s (inr (done, it)) =
+    TurnsTold tells (run (begin_of service.lists W) W) s.turns it
 TaskTold tells t W cs s it = Unit {0}
 
 abbrev pub AllTold : (V : Content) (c : Option Command) (rs : List Run) (end : Image) → Come V c rs end

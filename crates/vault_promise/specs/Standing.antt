@@ -93,8 +93,8 @@ TurnsStand tells W (Attended cs news ∷ ts) Later = TurnsStand tells (run cs W)
 abbrev pub TellsStanding : Turns → Task → Content → Streams → Replies → Type 0
 TellsStanding tells (Batch who now digits) W s Later = LinesStand tells now digits W s Later
 TellsStanding tells (Pipe now digits) W s Later = TextsStand tells now digits W s Later
-TellsStanding tells (Serve port connections lists) W s Later =
-    TurnsStand tells (run (begin_of lists W) W) s.turns Later
+TellsStanding tells (Serve service) W s Later =
+    TurnsStand tells (run (begin_of service.lists W) W) s.turns Later
 TellsStanding tells task W s Later = Unit {0}
 
 -- and of each of the runs, with those after it

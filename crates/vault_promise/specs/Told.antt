@@ -152,11 +152,11 @@ Tells tells (Batch who now digits) V cs s = (asked : List Asked) × All (Asks wh
     × (cs ≡ commands_of asked) × AreRead tells now digits s asked
     × ((sent : ℕ) × Appends s.sent_old s.sent_new (take sent (first_line ++ lines V asked)))
 Tells tells (Pipe now digits) V cs s = AreAnswered tells now digits V cs s
-Tells tells (Serve port connections lists) V cs s =
-    (let first = begin_of lists V in
+Tells tells (Serve service) V cs s =
+    (let first = begin_of service.lists V in
     ((k : ℕ) × (cs ≡ take k first) × (s.turns ≡ []))
     ⊎ ((more : List Command) × (cs ≡ first ++ more) × AreDone (length first) first V
-    × AllAnswer tells (asked_of (seen tells) lists) (run first V) s.turns more))
+    × AllAnswer tells (asked_of (seen tells) service.lists) (run first V) s.turns more))
 Tells tells (Show it) V cs s =
     (cs ≡ []) × ((sent : ℕ) × Appends s.sent_old s.sent_new (take sent (shown_text it V)))
 
@@ -192,8 +192,8 @@ IsNext tells (Batch who now digits) V cs s x = (rows : List Asked) × (it : Aske
     × Asks who it × (it.wanted ≡ Ok x)
     × BeginRecordsOf s.left_old (records_with (rows_of rows) ++ fields_in it.unit ∷ [])
 IsNext tells (Pipe now digits) V cs s x = IsAskedNext tells now digits s cs x
-IsNext tells (Serve port connections lists) V cs s x =
-    (let first = begin_of lists V in
+IsNext tells (Serve service) V cs s x =
+    (let first = begin_of service.lists V in
     AreFirst (cs ++ x ∷ []) first ⊎ ((more : List Command) × (cs ≡ first ++ more)
-    × IsLastNext tells (asked_of (seen tells) lists) (run first V) s.turns more x))
+    × IsLastNext tells (asked_of (seen tells) service.lists) (run first V) s.turns more x))
 IsNext tells (Show it) V cs s x = ⊥

@@ -19,7 +19,11 @@ without_end = 18446744073709551615
 abbrev pub IsServeOf : ServeJob → World → Task → Type 0
 IsServeOf j world t = (lists : Lists) × IsFollowed AreMerchantsIn world j.merchants lists.merchants
     × IsFollowed IsListedIn world j.rights lists.rights
-    × (t ≡ task.Serve j.port (unwrap_or j.connections without_end) lists)
+    × (t ≡ task.Serve (record {
+      port = j.port;
+      connections = unwrap_or j.connections without_end;
+      lists = lists;
+    }))
 
 -- it is refused for a text of the file of a list, where it has one, and needs a moment only then
 abbrev pub serve_says : ServeJob → Saying

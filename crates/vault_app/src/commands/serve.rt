@@ -9,6 +9,7 @@ use crate::commands::followed::{merchants_at, rights_at};
 use crate::ending::Ending;
 use vault_file::paths::Paths;
 use vault_jobs::lists::Lists;
+use vault_jobs::serve_task::ServeTask;
 use vault_jobs::task::Task;
 use vault_listen::time::Timekeeper;
 use vault_words::commands::serve::ServeJob;
@@ -40,5 +41,9 @@ pub(crate) fn task<P: Paths, K: Timekeeper>(
         Ok(rights) => rights,
         Err(ending) => return Err(ending),
     };
-    Ok(Task::Serve(job.port, connections, Lists { merchants, rights }))
+    Ok(Task::Serve(ServeTask {
+        port: job.port,
+        connections,
+        lists: Lists { merchants, rights },
+    }))
 }

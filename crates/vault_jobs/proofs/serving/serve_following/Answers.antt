@@ -21,11 +21,12 @@ returns-clause-does g c =
     let tells = g.K.Timekeeper.tells c.args.time.now in
     let says = g.D.Desk.says in
     let desk = c.args.desk.now in
-    let ends : Asking → Type 0 = λ asks. ServeEnds (serving_of tells asks c.args.port c.args.connections)
+    let it = c.args.service.now in
+    let ends : Asking → Type 0 = λ asks. ServeEnds (serving_of tells asks it.port it.connections)
     (passage g.T.Tables c.args.vault.now c.serve_at.new.vault) c.serve_at.result
     (output_with (c.serve_at.new.output ≡ c.args.output.now) (g.W.Write.contents c.args.output.now.inner)
     (g.W.Write.contents c.serve_at.new.output.inner) c.serve_at.new.output.stopped) does.0 in
-    let lists = c.args.lists.now in
+    let lists = it.lists in
     let sets : Asking = λ V cs. IsSomeAnd lists.merchants
     (λ it. Asks AreListed merchants_changes (says desk (path_of it)) tells V cs) in
     let gives : Asking = λ V cs. IsSomeAnd lists.rights
@@ -49,19 +50,19 @@ returns-clause-does g c =
     (λ asks. ends (λ V cs. sets V cs ⊎ gives V cs ⊎ asks V cs)) second in
     (does.0, does.1, third)
 
-module _ (g : Over) (c : After-serve_at g) (none : follows c.args.lists.now ≡ false) where
+module _ (g : Over) (c : After-serve_at g) (none : follows c.args.service.now.lists ≡ false) where
   -- where nothing is followed, no office acts
   idle_first : option_map_or (λ f. true) c.office_of.result.office false ≡ false
   idle_first = acts_not (λ f. f.path.now) (λ it. path_of it) c.office_of.result.office
-      c.args.lists.now.merchants c.office_of.ensures.path (λ f. true) (not_first _ _ none)
+      c.args.service.now.lists.merchants c.office_of.ensures.path (λ f. true) (not_first _ _ none)
 
   idle_second : option_map_or (λ f. true) c.office_of-2.result.office false ≡ false
   idle_second = acts_not (λ f. f.path.now) (λ it. path_of it) c.office_of-2.result.office
-      c.args.lists.now.rights c.office_of-2.ensures.path (λ f. true) (not_second _ _ none)
+      c.args.service.now.lists.rights c.office_of-2.ensures.path (λ f. true) (not_second _ _ none)
 
   idle_third : option_map_or (λ f. true) c.sweeps_of.result.office false ≡ false
   idle_third = acts_not (λ f. f.list.path.now) (λ it. path_of it) c.sweeps_of.result.office
-      c.args.lists.now.merchants c.sweeps_of.ensures.path (λ f. true) (not_first _ _ none)
+      c.args.service.now.lists.merchants c.sweeps_of.ensures.path (λ f. true) (not_first _ _ none)
 
 pub returns-clause-store : goal.returns-clause-store
 returns-clause-store g c = λ none.

@@ -38,8 +38,7 @@ pub returns-in-Serve-clause-does : goal.returns-in-Serve-clause-does
 returns-in-Serve-clause-does g c = rw c.in-Serve.is (
   c.serve_lists-ended.ensures.does.0,
   c.serve_lists-ended.ensures.does.1,
-  serve_done c.in-Serve.port c.in-Serve.connections c.in-Serve.lists refl c.serve_lists-ended.ensures.breaks
-      c.serve_lists-ended.ensures.does.2,
+  serve_done c.in-Serve.service refl c.serve_lists-ended.ensures.breaks c.serve_lists-ended.ensures.does.2,
 )
 
 pub returns-in-Settle-clause-does : goal.returns-in-Settle-clause-does
