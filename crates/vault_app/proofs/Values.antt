@@ -1,20 +1,16 @@
 -- Tasks whose parts are values of their types.
-use Rattle.std.proofs.Common.{◌≡◌, ℕ, List, [], ◌∷◌, All, Option, Some, None, Bool, true, false, sym, subst}
+use Rattle.std.proofs.Common.{ℕ, List, [], ◌∷◌, All, Option, Some, None, Bool, true, false, sym, subst}
 use Rattle.std.proofs.lemmas.List.Elements.{All-cons, All-nil}
 use Rattle.std.specs.Prelude.{IfSome, if◌then◌else◌}
 use Rattle.std.specs.Global.{Vec}
-use Rattle.std.specs.List.{AllByRecursion}
-use Rattle.toml.specs.Data.{Members, get_item, get_member, member, no_members}
+use Rattle.toml.specs.Data.{Members, member, no_members}
 use Rattle.vault_core.specs.Name.{IsName}
 use Rattle.vault_core.specs.Proper.{AllProper, HasLivesInRange, IsProper}
 use Rattle.vault_core.specs.Scalar.{IsMoment}
 use Rattle.vault_core.specs.declared.command.Command.{Command}
 use Rattle.vault_core.proofs.Setting.{if_setting}
-use Rattle.vault_rights.proofs.Lists.{all-contained}
-use Rattle.vault_rights.proofs.Words.{grant-exact}
-use Rattle.vault_rights.specs.Items.{grant_of}
-use Rattle.vault_rights.specs.Named.{Names, Row}
-use Rattle.vault_rights.specs.Proper.{IsProper as IsProperDocument}
+use Rattle.vault_live.proofs.ProperChanges.{named_proper}
+use Rattle.vault_rights.specs.Named.{Row}
 use Rattle.vault_changes.specs.Grants.{grants_at}
 use Rattle.vault_changes.specs.Settings.{HasLives as HasListedLives, wanted_at}
 use Rattle.vault_merchants.specs.ListedMerchants.{AreRowsOf, Wanted}
@@ -59,39 +55,11 @@ has_lives (Pipe now digits) is = tt
 has_lives (Serve it) is = file_lives it.lists.merchants is.0
 has_lives (Show it) is = tt
 
--- the names of a row are names, and its end is a moment
-abbrev IsProperRow : Row → Type 0
-IsProperRow row = IsName row.0 × IsName row.1 × IfSome row.3 IsMoment
-
-row_proper : (document : Members) → IsProperDocument document → (row : Row) → Names document row
-    → IsProperRow row
-row_proper document proper row
-    (value, found, (members, is_table, (inner, at, (items, is_array, (item, last))))) =
-    let caller = proper row.0 value found in
-    let same : members ≡ caller.1.0 = cc (is_table, caller.1.1) in
-    let merchant = caller.1.2 row.1 inner (subst (λ ms. get_member row.1 ms ≡ Some inner) same at) in
-    let listed : items ≡ merchant.1.0 = cc (is_array, merchant.1.1) in
-    let grant = merchant.1.2 item.0 (grant_of row.2 row.3)
-    (subst (λ xs. get_item item.0 xs ≡ Some (grant_of row.2 row.3)) listed item.1) in (
-      caller.0,
-      merchant.0,
-      subst (λ until. IfSome until IsMoment)
-          (sym (grant-exact row.2 grant.0 row.3 grant.1 grant.2).1) grant.3,
-    )
-
--- so the rights that a list names are given by proper commands
-rows_proper : (now : ℕ) → IsMoment now → (rows : List Row) → AllByRecursion IsProperRow rows
-    → AllProper (grants_at now rows)
-rows_proper now moment [] each = tt
-rows_proper now moment (row ∷ rows) each =
-    let it : IsProperRow row = each.0 in
-    ((it.0, it.1, it.2, moment), rows_proper now moment rows each.1)
-
+-- the rights that a list names are given by proper commands
 pub listed_proper : (says : List ℕ → Type 0) (now : ℕ) → IsMoment now → (rows : List Row)
     → IsListed says rows → AllProper (grants_at now rows)
 listed_proper says now moment rows (text, (document, said, is, proper, list)) =
-    rows_proper now moment rows (all-contained IsProperRow rows
-    (λ row inside. row_proper document proper row ((list.1 row).0 inside)))
+    named_proper document proper now moment rows (λ row. (list.1 row).0)
 
 -- so the task of a list has values, whatever the words ask of it
 rights_proper : (dry_run exact : Bool) (rows : Vec Row) (now : ℕ) → IsMoment now

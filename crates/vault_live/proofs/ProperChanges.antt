@@ -1,6 +1,7 @@
 -- What makes a sound vault's rights those of a good list is proper.
 use Rattle.std.proofs.Common.{◌≡◌, ◌∙◌, ◌⊎◌, ℕ, List, [], ◌∷◌, ◌++◌, true, false, Some, cond, not}
 use Rattle.std.proofs.Common.{refl, sym, ap, subst, arith, inl, inr, Less, Greater, T, Ordering, is_eq, is_lt}
+use Rattle.std.proofs.Common.{Contains}
 use Rattle.std.proofs.lemmas.Bool.{and_parts}
 use Rattle.std.specs.Prelude.{IfSome}
 use Rattle.std.specs.Cmp.{IsTotalOrder, tied_itself}
@@ -93,6 +94,14 @@ rows_proper now moment (row ∷ rows) each =
     let it : IsProperRow row = each.0 in
     ((it.0, it.1, it.2, moment), rows_proper now moment rows each.1)
 
+-- the rights that a proper document names are given by proper commands
+pub named_proper : (document : Members) → IsProperDocument document → (now : ℕ) → IsMoment now
+    → (rows : List Row) → ((row : Row) → Contains rows row → Names document row)
+    → AllProper (grants_at now rows)
+named_proper document proper now moment rows named =
+    rows_proper now moment rows (all-contained IsProperRow rows
+    (λ row inside. row_proper document proper row (named row inside)))
+
 -- grants of some of the rows are proper where those of all are
 some_proper : (now : ℕ) (held : List Held) (rows : List Row) → AllProper (grants_at now rows)
     → AllProper (grants_at now (missing_rows rows held))
@@ -142,5 +151,5 @@ settled_proper now rows V sound moment proper =
 pub changes_proper : (text : List ℕ) (rows : List Row) (now : ℕ) (V : Content) → AreRowsIn text rows
     → IsMoment now → Sound V → AllProper (rights_changes now rows V)
 changes_proper text rows now V (document, is, proper, list) moment sound =
-    settled_proper now rows V sound moment (rows_proper now moment rows (all-contained IsProperRow rows
-    (λ row inside. row_proper document proper row ((list.1 row).0 inside))))
+    settled_proper now rows V sound moment
+    (named_proper document proper now moment rows (λ row. (list.1 row).0))

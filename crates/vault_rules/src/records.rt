@@ -39,7 +39,7 @@ impl<'a> Records<'a> {
     }
 
     /// Takes the next record. Only memory can fail.
-    pub fn take(&mut self, record: &RawRecord) -> Result<(), AllocError>
+    pub fn take(&mut self, row: &RawRecord) -> Result<(), AllocError>
         // the entries stay as they were
         ensures entries { self.new.entries ≡ self.old.entries }
         // with Ok, one more came
@@ -47,11 +47,11 @@ impl<'a> Records<'a> {
         // with Ok, fewer than 2^64 came
         ensures few { OnOk result (self.new.many < 2 ^ 64) }
         // with Ok, those before and this one came
-        ensures taken { OnOk result (TakesOneMore HasRecords self.old self.new record.now) }
+        ensures taken { OnOk result (TakesOneMore HasRecords self.old self.new row.now) }
     {
         self.many = one_more(self.many)?;
-        self.rowids.take(record.rowid);
-        self.kept = self.kept && is_record(&self.entries, record);
+        self.rowids.take(row.rowid);
+        self.kept = self.kept && is_record(&self.entries, row);
         Ok(())
     }
 
