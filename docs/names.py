@@ -10,6 +10,8 @@ import re
 import subprocess
 import sys
 
+import reached
+
 ROOT = pathlib.Path(__file__).resolve().parent.parent
 OTHERS = "docs/others.txt"
 # what it says of older programs stands nowhere any more
@@ -52,6 +54,8 @@ def counts(files):
         (r"(?:the|of the|each of the) (\w+) versions", matches("crates/vault_schema/src/version.rt", r"^    [A-Z]\w+,$")),
         (r"The gate has (\w+), `trials/wrong`", listed(r"^crates/\w+/must-fail/.*\.edit$")),
         (r"`trials/wrong` (\w+) more", listed(r"^trials/wrong/.*\.edit$")),
+        (r"promise stands on (\d+) of", len(reached.reached(*reached.LAW))),
+        (r"of (\d+) files of specs", listed(r"^crates/\w+/specs/.*\.antt$")),
     ]
 
 
