@@ -79,7 +79,7 @@ till-2 shop1 tokenize' "$(rights)"
 step "the same list again changes nothing" 'granted 0 withdrawn 0 (0)' \
     "$(told "$program" rights --exact --now 2000 vault.db rights.toml)"
 
-printf '[till-1]\nshop3 = ["view"]\n' > unknown.toml
+printf '[till-1]\nshop3 = ["view"]\n# end\n' > unknown.toml
 step "a merchant that isn't known is refused" 'refused 7 (1)' \
     "$(told "$program" rights --exact --now 2000 vault.db unknown.toml)"
 step "before anything is withdrawn" '3' "$(rights | wc -l)"
@@ -90,7 +90,7 @@ step "an empty list withdraws all" 'granted 0 withdrawn 3 (0)' \
 serve() {
     start_service --connections 1 "$@" vault.db
 }
-printf '[back]\nshop1 = ["audit"]\n' > first.toml
+printf '[back]\nshop1 = ["audit"]\n# end\n' > first.toml
 serve --rights first.toml
 step "a service begins with its list" '{"denied":0,"given":0,"made":1} 200' \
     "$(ask back GET /v1/merchants/shop1/audit -H 'Connection: close')"
@@ -100,7 +100,14 @@ step "which is all that there is" 'back shop1 audit' "$(rights)"
 code=0
 serve --rights bare.toml
 wait "$service" || code=$?
-step "one without a right has to say so" 'refused 70 1' "$(cat served) $code"
+step "one without a right has to say so" 'refused 70 vault: the last line of RIGHTS is not # end 1' \
+    "$(cat served errors | tr '\n' ' ')$code"
+printf '[back]\nshop1 = ["audit"]\n' > cut.toml
+code=0
+serve --rights cut.toml
+wait "$service" || code=$?
+step "and so has any other" 'refused 70 vault: the last line of RIGHTS is not # end 1' \
+    "$(cat served errors | tr '\n' ' ')$code"
 echo '# end' > rightless.toml
 serve --rights rightless.toml
 step "one that does lets nobody in" '{"refused":8} 403' \
@@ -141,15 +148,15 @@ shop2 single 60 multi 0 lead 8
 shop3 single 5 multi 6 lead 6' "$(merchants)"
 step "the same list again sets nothing" 'merchants set 0 (0)' \
     "$(told "$program" merchants vault.db merchants.toml)"
-printf '[shop4]\nsingle = 3155760001\nmulti = 0\n' > long.toml
+printf '[shop4]\nsingle = 3155760001\nmulti = 0\n# end\n' > long.toml
 step "a life out of range is refused" 'refused 76 (1)' "$(told "$program" merchants vault.db long.toml)"
 step "and nothing is set" '3' "$(merchants | wc -l)"
 step "a list that isn't there stops it" 'vault: stopped 80 (4)' \
     "$(told "$program" merchants vault.db none.toml)"
 
 # A service sets its merchants first, so its rights may name a new one.
-printf '[shop4]\nsingle = 60\nmulti = 0\n' > fourth.toml
-printf '[back]\nshop4 = ["audit"]\n' > its-rights.toml
+printf '[shop4]\nsingle = 60\nmulti = 0\n# end\n' > fourth.toml
+printf '[back]\nshop4 = ["audit"]\n# end' > its-rights.toml
 serve --merchants fourth.toml --rights its-rights.toml
 step "a service begins with both lists" '{"denied":0,"given":0,"made":0} 200' \
     "$(ask back GET /v1/merchants/shop4/audit -H 'Connection: close')"
@@ -159,7 +166,8 @@ step "its merchants are there, and no other is gone" '4' "$(merchants | wc -l)"
 code=0
 serve --merchants bare.toml
 wait "$service" || code=$?
-step "a list without a merchant has to say so" 'refused 70 1' "$(cat served) $code"
+step "a list without a merchant has to say so" 'refused 70 vault: the last line of LIST is not # end 1' \
+    "$(cat served errors | tr '\n' ' ')$code"
 code=0
 serve --merchants long.toml
 wait "$service" || code=$?

@@ -28,13 +28,18 @@ REFUSED = (
     ("out of range", merchants(single=3155760001, end=""), 76, '[a]\nb = [{right="view", until=-1}]\n', 75),
     ("no such word", "[shop1]\nsingle = 60\nmulti = 0\nlead = 7\n", 76, '[till-1]\nshop1 = ["all"]\n', 71),
 )
-# texts of merchants and of rights that are passed over
-PASSED_OVER = (
+# texts of merchants and of rights that aren't whole
+UNFINISHED = (
     ("without the last line", merchants(single=60, end=""), rights(end="")),
     ("cut in the middle of a line", merchants()[:20], TILLS[:-5]),
     ("cut behind a line", merchants(single=60, end="") + "[shop2]\n", TILLS[: TILLS.rindex("[")]),
     ("empty", "", ""),
+)
+# texts whose last line ends otherwise, or that ask for nothing new
+NOTHING_NEW = (
     ("no merchant", END, rights("guest")),
+    ("lines that end by CR LF", merchants().replace("\n", "\r\n"), rights("guest").replace("\n", "\r\n")),
+    ("a last line without an end", merchants()[:-1], rights("guest")[:-1]),
     ("good again", merchants(), rights("guest")),
 )
 
@@ -117,6 +122,17 @@ class Trial:
             written(RIGHTS, callers)
             ran = run(self.program, "serve", *words(FILE))
             self.tally.judge(f"a start with {name}", unlike((ran.status, ran.out), (1, wanted)))
+        for name, put in UNREAD:
+            written(MERCHANTS, merchants())
+            os.remove(RIGHTS)
+            put(RIGHTS)
+            ran = run(self.program, "serve", *words(FILE))
+            self.tally.judge(f"a start with {name}", unlike((ran.status, ran.out), (4, b"")))
+            if os.path.isdir(RIGHTS):
+                os.rmdir(RIGHTS)
+            elif os.path.lexists(RIGHTS):
+                os.remove(RIGHTS)
+            written(RIGHTS, rights())
 
     def ways(self):
         """A caller comes and goes, and a life changes, by each way of changing a file."""
@@ -148,12 +164,17 @@ class Trial:
         self.in_force("behind the kills", has_guest, *lines, latest=LATER)
 
     def not_taken(self):
-        """Texts that aren't taken: each is refused once, or passed over in silence."""
+        """Texts that aren't taken: each is refused once, or is said once not to be whole."""
         for name, shops, first, callers, second in REFUSED:
             written(MERCHANTS, shops + END)
             written(RIGHTS, callers + END)
             self.says_both(name, f"merchants refused {first}", f"rights refused {second}")
-        for name, shops, callers in PASSED_OVER:
+        for name, shops, callers in UNFINISHED:
+            written(MERCHANTS, shops)
+            written(RIGHTS, callers)
+            self.says_both(name, "merchants unfinished", "rights unfinished")
+            self.silent(name)
+        for name, shops, callers in NOTHING_NEW:
             written(MERCHANTS, shops)
             written(RIGHTS, callers)
             self.silent(name)

@@ -97,7 +97,7 @@ def judge_read(tally, program, place, text, merchants):
 
 def judge_swept(tally, program, place, text, merchants, sweepers):
     """Each merchant has a dead token that each sweeper may purge. It is purged where the list names one."""
-    case, path = begun(tally, program, place, text)
+    case, path = begun(tally, program, place, f"{text}# end\n")
     for request, merchant in enumerate(merchants, 1):
         sold(program, case.file, request, merchant, sweepers.values())
     lines = "".join(f"sweep of {name} purged 1\n" for name in sweepers)

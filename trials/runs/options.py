@@ -76,8 +76,8 @@ def begun(program, is_set):
     folder = Path(f"options {len(os.listdir())}")
     folder.mkdir()
     os.chdir(folder)
-    Path(LIST).write_text("[till-1]\nshop1 = ['view']\n")
-    Path(MERCHANTS).write_text("[shop1]\nsingle = 90\nmulti = 0\n")
+    Path(LIST).write_text("[till-1]\nshop1 = ['view']\n# end\n")
+    Path(MERCHANTS).write_text("[shop1]\nsingle = 90\nmulti = 0\n# end\n")
     if is_set:
         told(program, f"merchant --now 5 {FILE} shop1 60 0")
 

@@ -23,20 +23,21 @@ use Rattle.vault_jobs.specs.declared.clock.Giver.TheVariants.{Clock}
 use Rattle.vault_jobs.specs.declared.note.Note.{Note as TaskNote}
 use Rattle.vault_jobs.specs.declared.show.Shown.TheVariants as show
 use Rattle.vault_jobs.specs.declared.task.Task.{Task}
+use Rattle.vault_live.specs.declared.subject.Subject.{Subject}
 use Rattle.vault_jobs.specs.declared.task.Task.TheVariants as task
 use Rattle.vault_app.specs.Asked.{AsksFor}
-use Rattle.vault_app.specs.Ending.{Said, Says, note_line, placeholder_line, status_of}
+use Rattle.vault_app.specs.Ending.{Said, Says, note_line, status_of}
 use Rattle.vault_app.specs.Endings.{NotedLineEnds}
 use Rattle.vault_app.specs.Files.{EndsOnFile}
 use Rattle.vault_app.specs.Jobs.{Does, DoesPlan}
 use Rattle.vault_app.specs.Commands.Check.{TellsSizes}
 use Rattle.vault_app.specs.Commands.Migrate.{TellsMoved}
 use Rattle.vault_app.specs.Notes.{MayNote, OfTask}
-use Rattle.vault_app.specs.Plans.{IsMisnamed, IsPlanOf, IsTaskOf}
+use Rattle.vault_app.specs.Plans.{IsMisnamed, IsPlanOf, IsTaskOf, IsUnfinished, SaysWhy}
 use Rattle.vault_app.specs.World.{World}
 use Rattle.vault_app.specs.declared.ending.Ending.{Ending}
 use Rattle.vault_app.specs.declared.ending.Ending.TheVariants.{Done, Noted, Version, Refused, Misnamed}
-use Rattle.vault_app.specs.declared.ending.Ending.TheVariants.{SomeRefused, BadWords, NotOpened, Stopped}
+use Rattle.vault_app.specs.declared.ending.Ending.TheVariants.{Unfinished, SomeRefused, BadWords, NotOpened, Stopped}
 use Rattle.vault_app.specs.declared.note.Note.{Note}
 use Rattle.vault_app.specs.declared.note.Note.TheVariants as note
 use Rattle.vault_app.specs.declared.placeholder.Placeholder.{Placeholder}
@@ -167,6 +168,17 @@ module _ {D : Type 0} {g : Ghosts D} (world : World) (left : Option (FileStore D
   misnamed_of it words (inr (none, inr (inl (unknown, is, calm, silent)))) = absurd (cc (is))
   misnamed_of it words (inr (none, inr (inr (is, calm, silent)))) = absurd (cc (is))
 
+  unfinished_of : (it : Subject) (words : List Text) → Does world left words (Unfinished it)
+      (seen_as unread unsent s)
+      → AsksFor words (IsUnfinished world it)
+  unfinished_of it words (inl (job, asked, inl (p, is, proper, h))) =
+      absurd (plan_without world left unread unsent s (Unfinished it) tt p h)
+  unfinished_of it words (inl (job, asked, inr (before, none, calm, silent))) = (job, asked, before)
+  unfinished_of it words (inr (none, inl (inl (help, is), calm))) = absurd (cc (is))
+  unfinished_of it words (inr (none, inl (inr (version, is, silent), calm))) = absurd (cc (is))
+  unfinished_of it words (inr (none, inr (inl (unknown, is, calm, silent)))) = absurd (cc (is))
+  unfinished_of it words (inr (none, inr (inr (is, calm, silent)))) = absurd (cc (is))
+
   -- with a status of 0 nothing is said on the errors, or a note that the job may have
   pub noted_at : (words : List Text) (ending : Ending) (why : List ℕ) (output errors : Said)
       → status_of ending ≡ 0
@@ -178,24 +190,25 @@ module _ {D : Type 0} {g : Ghosts D} (world : World) (left : Option (FileStore D
   noted_at words Version why o e at h said = inl said.1
   noted_at words (Refused n) why o e at h said = inl said.1
   noted_at words (Misnamed it) why o e at h said = absurd (omega (arith, at))
+  noted_at words (Unfinished it) why o e at h said = absurd (omega (arith, at))
   noted_at words SomeRefused why o e at h said = inl said.1
   noted_at words BadWords why o e at h said = absurd (omega (arith, at))
   noted_at words (NotOpened f) why o e at h said = absurd (omega (arith, at))
   noted_at words (Stopped stop) why o e at h said = absurd (omega (arith, at))
 
-  -- and with 1 nothing is, or which of the job's words is none
+  -- and with 1 nothing is, or which of the job's words is none, or which of its lists isn't whole
   pub misnamed_at : (words : List Text) (ending : Ending) (why : List ℕ) (output errors : Said)
       → status_of ending ≡ 1
       → Does world left words ending (seen_as unread unsent s)
       → Says why ending output errors
-      → errors.nothing ⊎ (it : Placeholder) × AsksFor words (IsMisnamed it)
-      × errors.bytes (placeholder_line it)
-  misnamed_at words Done why o e at h said = inl said.1
+      → SaysWhy world words errors
+  misnamed_at words Done why o e at h said = inl (inl said.1)
   misnamed_at words (Noted it) why o e at h said = absurd (omega (arith, at))
-  misnamed_at words Version why o e at h said = inl said.1
-  misnamed_at words (Refused n) why o e at h said = inl said.1
-  misnamed_at words (Misnamed it) why o e at h said = inr (it, misnamed_of it words h, said.1)
-  misnamed_at words SomeRefused why o e at h said = inl said.1
+  misnamed_at words Version why o e at h said = inl (inl said.1)
+  misnamed_at words (Refused n) why o e at h said = inl (inl said.1)
+  misnamed_at words (Misnamed it) why o e at h said = inl (inr (it, misnamed_of it words h, said.1))
+  misnamed_at words (Unfinished it) why o e at h said = inr (inr (it, unfinished_of it words h, said.1))
+  misnamed_at words SomeRefused why o e at h said = inl (inl said.1)
   misnamed_at words BadWords why o e at h said = absurd (omega (arith, at))
   misnamed_at words (NotOpened f) why o e at h said = absurd (omega (arith, at))
   misnamed_at words (Stopped stop) why o e at h said = absurd (omega (arith, at))

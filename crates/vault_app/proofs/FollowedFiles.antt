@@ -1,41 +1,73 @@
 -- Lists that are followed, at the path that the words name.
-use Rattle.std.proofs.Common.{◌≡◌, ℕ, List, [], Option, Some, false, refl, subst, sym, Bor}
+use Rattle.std.proofs.Common.{◌≡◌, ℕ, List, Option, Some, None, true, false, refl, subst, sym, Bor}
 use Rattle.std.specs.Global.{Vec}
-use Rattle.vault_refusal.specs.Refusal.{number_of}
-use Rattle.vault_refusal.specs.declared.refusal.Refusal.TheVariants.{NotToml}
-use Rattle.vault_live.specs.Following.{has_end}
+use Rattle.std.specs.Prelude.{IfSome}
+use Rattle.vault_core.specs.Scalar.{IsMoment}
+use Rattle.vault_merchants.specs.ListedMerchants.{AreListed, Wanted}
+use Rattle.vault_rights.specs.Named.{Row}
+use Rattle.vault_live.specs.Following.{AreRowsIn}
+use Rattle.vault_live.specs.Kinds.{Naming}
+use Rattle.vault_live.specs.Following.{is_whole}
 use Rattle.vault_jobs.specs.Lists.{path_of}
 use Rattle.vault_jobs.specs.Moments.{IsMomentOf}
 use Rattle.vault_jobs.specs.declared.lists.ListFile.{ListFile}
-use Rattle.vault_app.specs.Followed.{IsFollowed, IsRefusedAt}
+use Rattle.vault_app.proofs.Values.{listed_proper, merchants_proper}
+use Rattle.vault_app.specs.Followed.{IsFaultyAt, IsFollowed, IsUnfinishedAt}
+use Rattle.vault_app.specs.TaskValues.{AreMerchantValues, AreRightValues}
 use Rattle.vault_app.specs.World.{World}
-use Rattle.std.specs.Prelude.{None}
 
--- a refusal of a text of the file that is named
-pub refused_there : (refuses : (List ℕ → Type 0) → ℕ → Type 0) (world : World)
-    (o : Option (Bor (List ℕ))) (path : Bor (List ℕ)) (n : ℕ) → o ≡ Some path
-    → refuses (world.says path.now) n → IsRefusedAt refuses world o n
-refused_there refuses world o path n is h = subst (λ x. IsRefusedAt refuses world x n) (sym is) h
+-- a whole text of the file that is named, which has a fault
+pub faulty_there : (faults : List ℕ → ℕ → Type 0) (world : World) (o : Option (Bor (List ℕ)))
+    (path : Bor (List ℕ)) (text : List ℕ) (n : ℕ) → o ≡ Some path → world.looks path.now 0 text
+    → is_whole text ≡ true → faults text n → IsFaultyAt faults world o n
+faulty_there faults world o path text n is said whole h =
+    subst (λ x. IsFaultyAt faults world x n) (sym is) (text, said, whole, h)
 
-module _ {X : Type 0} (lists : (List ℕ → Type 0) → List ℕ → List X → Type 0) where
-  -- a text without a row, which doesn't say that it ends
-  pub bare : (says : List ℕ → Type 0) (text : List ℕ) (rows : List X) (n : ℕ) → lists says text rows
-      → rows ≡ [] → has_end text ≡ false → n ≡ number_of NotToml
-      → (t : List ℕ) × lists says t [] × (has_end t ≡ false) × (n ≡ number_of NotToml)
-  bare says text rows n are none endless same =
-      (text, subst (lists says text) none are, endless, same)
+-- one that isn't whole
+pub unfinished_there : (world : World) (o : Option (Bor (List ℕ))) (path : Bor (List ℕ)) (text : List ℕ)
+    → o ≡ Some path → world.looks path.now 0 text → is_whole text ≡ false → IsUnfinishedAt world o
+unfinished_there world o path text is said cut =
+    subst (λ x. IsUnfinishedAt world x) (sym is) (text, said, cut)
 
-  -- a list of the file that is named
-  pub followed_there : (world : World) (o : Option (Bor (List ℕ))) (path : Bor (List ℕ)) (it : ListFile X)
-      (text : Vec ℕ) (rows : Vec X) → o ≡ Some path → it.text ≡ text → it.rows ≡ rows
-      → lists (world.says path.now) text.items rows.items → IsMomentOf world.tells None it.now
-      → path_of it ≡ path.now → IsFollowed lists world o (Some it)
-  followed_there world o path it text rows is same_text same_rows are told of =
-      subst (λ x. IsFollowed lists world x (Some it)) (sym is) (
-        it,
-        refl,
-        subst (λ (t : Vec ℕ). lists (world.says path.now) t.items it.rows.items) (sym same_text)
-            (subst (λ (r : Vec X). lists (world.says path.now) text.items r.items) (sym same_rows) are),
-        told,
-        of,
-      )
+-- a list of the file that is named
+pub followed_there : {X : Type 0} (names : Naming X) (world : World) (o : Option (Bor (List ℕ)))
+    (path : Bor (List ℕ)) (it : ListFile X) (text : Vec ℕ) (rows : Vec X) → o ≡ Some path → it.text ≡ text
+    → it.rows ≡ rows → world.looks path.now 0 text.items → is_whole text.items ≡ true
+    → names text.items rows.items → IsMomentOf world.tells None it.now → path_of it ≡ path.now
+    → IsFollowed names world o (Some it)
+followed_there {X = X} names world o path it text rows is same_text same_rows said whole named told of =
+    subst (λ x. IsFollowed names world x (Some it)) (sym is) (
+      it,
+      refl,
+      (
+        subst (λ (t : Vec ℕ). world.looks path.now 0 t.items) (sym same_text) said,
+        subst (λ (t : Vec ℕ). is_whole t.items ≡ true) (sym same_text) whole,
+        subst (λ (t : Vec ℕ). names t.items it.rows.items) (sym same_text)
+            (subst (λ (r : Vec X). names text.items r.items) (sym same_rows) named),
+      ),
+      told,
+      of,
+    )
+
+-- the rights of such a list are values of their types
+pub rights_values : (world : World) (o : Option (Bor (List ℕ))) (listed : Option (ListFile Row))
+    → IsFollowed AreRowsIn world o listed → IfSome listed (λ it. IsMoment it.now)
+    → IfSome listed AreRightValues
+rights_values world None listed none moment = subst (λ x. IfSome x AreRightValues) (sym none) tt
+rights_values world (Some path) listed (it, is, (said, whole, named), told, of) moment =
+    let now : IsMoment it.now = subst (λ x. IfSome x (λ it. IsMoment it.now)) is moment in
+    subst (λ x. IfSome x AreRightValues) (sym is) (
+      now,
+      listed_proper (λ text. text ≡ it.text.items) it.now now it.rows.items
+          (it.text.items, (named.0, refl, named.1, named.2, named.3)),
+    )
+
+-- and so are the merchants
+pub merchant_values : (world : World) (o : Option (Bor (List ℕ))) (listed : Option (ListFile Wanted))
+    → IsFollowed AreListed world o listed → IfSome listed (λ it. IsMoment it.now)
+    → IfSome listed AreMerchantValues
+merchant_values world None listed none moment = subst (λ x. IfSome x AreMerchantValues) (sym none) tt
+merchant_values world (Some path) listed (it, is, (said, whole, named), told, of) moment =
+    let now : IsMoment it.now = subst (λ x. IfSome x (λ it. IsMoment it.now)) is moment in
+    subst (λ x. IfSome x AreMerchantValues) (sym is)
+    (merchants_proper (λ text. text ≡ it.text.items) it.now now it.rows.items (it.text.items, (refl, named)))

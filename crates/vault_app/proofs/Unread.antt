@@ -38,7 +38,7 @@ use Rattle.vault_app.specs.Plans.{IsPlanOf, IsTaskOf}
 use Rattle.vault_app.specs.World.{World, outside_in}
 use Rattle.vault_app.specs.declared.ending.Ending.{Ending}
 use Rattle.vault_app.specs.declared.ending.Ending.TheVariants.{Done, Noted, Version, Refused, Misnamed}
-use Rattle.vault_app.specs.declared.ending.Ending.TheVariants.{SomeRefused, BadWords, NotOpened, Stopped}
+use Rattle.vault_app.specs.declared.ending.Ending.TheVariants.{Unfinished, SomeRefused, BadWords, NotOpened, Stopped}
 use Rattle.vault_app.specs.declared.note.Note.{Note}
 use Rattle.vault_app.specs.declared.plan.Plan.{Plan}
 use Rattle.vault_app.specs.declared.plan.Plan.TheVariants as plan
@@ -65,6 +65,8 @@ said_at why (Refused n) o e (inl at) said = absurd (omega (arith, at))
 said_at why (Refused n) o e (inr at) said = absurd (omega (arith, at))
 said_at why (Misnamed it) o e (inl at) said = absurd (omega (arith, at))
 said_at why (Misnamed it) o e (inr at) said = absurd (omega (arith, at))
+said_at why (Unfinished it) o e (inl at) said = absurd (omega (arith, at))
+said_at why (Unfinished it) o e (inr at) said = absurd (omega (arith, at))
 
 -- the end of a job that wrote a line, with what is noted beside it
 abbrev IsOfLine : Ending → Type 0
@@ -86,11 +88,13 @@ of_line text noted of ending out (line, ends, is) = absurd ends
 abbrev pub IsPlanless : Ending → Type 0
 IsPlanless BadWords = Unit {0}
 IsPlanless (Misnamed it) = Unit {0}
+IsPlanless (Unfinished it) = Unit {0}
 IsPlanless ending = ⊥
 
 no_line : (ending : Ending) → IsPlanless ending → ¬ (IsOfLine ending)
 no_line BadWords is line = line
 no_line (Misnamed it) is line = line
+no_line (Unfinished it) is line = line
 no_line ending is line = absurd is
 
 -- the task answers rows
@@ -174,12 +178,14 @@ module _ {D : Type 0} {g : Ghosts D} (world : World) (left : Option (FileStore D
       → ¬ (EndsOnFile world path left t e (seen_as unread unsent s))
   file_without BadWords is path (Some it) t h = h
   file_without (Misnamed placeholder) is path (Some it) t h = h
+  file_without (Unfinished about) is path (Some it) t h = h
   file_without e is path (Some it) t h = absurd is
   file_without e is path None t h = subst IsPlanless h.1 is
 
   trial_without : (e : Ending) → IsPlanless e → (t : Asked) → ¬ (TrialEnds world.tells t e s)
   trial_without BadWords is t h = h
   trial_without (Misnamed placeholder) is t h = h
+  trial_without (Unfinished about) is t h = h
   trial_without e is t h = absurd is
 
   pub plan_without : (e : Ending) → IsPlanless e → (p : Plan)
@@ -288,6 +294,8 @@ module _ {D : Type 0} {g : Ghosts D} (world : World) (left : Option (FileStore D
   calm_at words (Refused n) (inr at) h = absurd (omega (arith, at))
   calm_at words (Misnamed it) (inl at) h = absurd (omega (arith, at))
   calm_at words (Misnamed it) (inr at) h = absurd (omega (arith, at))
+  calm_at words (Unfinished it) (inl at) h = absurd (omega (arith, at))
+  calm_at words (Unfinished it) (inr at) h = absurd (omega (arith, at))
   calm_at words SomeRefused (inl at) h = absurd (omega (arith, at))
   calm_at words SomeRefused (inr at) h = absurd (omega (arith, at))
   calm_at words (Stopped why) (inl at) h = absurd (omega (arith, at))
@@ -309,6 +317,13 @@ module _ {D : Type 0} {g : Ghosts D} (world : World) (left : Option (FileStore D
   refused_at words (Misnamed it) at (inr (none, inl (inr (version, is, silent), calm))) = inl calm
   refused_at words (Misnamed it) at (inr (none, inr (inl (unknown, is, calm, silent)))) = inl calm
   refused_at words (Misnamed it) at (inr (none, inr (inr (is, calm, silent)))) = inl calm
+  refused_at words (Unfinished it) at (inl (job, asked, inl (p, is, proper, h))) =
+      absurd (plan_without (Unfinished it) tt p h)
+  refused_at words (Unfinished it) at (inl (job, asked, inr (before, none, calm, silent))) = inl calm
+  refused_at words (Unfinished it) at (inr (none, inl (inl (help, is), calm))) = inl calm
+  refused_at words (Unfinished it) at (inr (none, inl (inr (version, is, silent), calm))) = inl calm
+  refused_at words (Unfinished it) at (inr (none, inr (inl (unknown, is, calm, silent)))) = inl calm
+  refused_at words (Unfinished it) at (inr (none, inr (inr (is, calm, silent)))) = inl calm
   refused_at words SomeRefused at (inl (job, asked, inl (p, is, proper, h))) =
       inr (job, asked, batch_in job p is (plan_part p h))
   refused_at words SomeRefused at (inl (job, asked, inr (never, none, calm, silent))) = absurd never

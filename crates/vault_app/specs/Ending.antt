@@ -3,20 +3,22 @@ use Rattle.std.specs.Prelude.{◌≡◌, ◌⊎◌, ℕ, ◌++◌, List, codes, 
 use Rattle.std.specs.Fmt.{signed_decimal}
 use Rattle.vault_schema.specs.Versions.{newest, number_of as version_number}
 use Rattle.vault_refusal.specs.Refusal.{number_of}
-use Rattle.vault_refusal.specs.declared.refusal.Refusal.TheVariants.{BadName, UnknownRight}
+use Rattle.vault_refusal.specs.declared.refusal.Refusal.TheVariants.{BadName, NotToml, UnknownRight}
 use Rattle.vault_file.specs.Faults as file
 use Rattle.vault_file.specs.declared.fault.NotOpened.{NotOpened as FileFault}
 use Rattle.vault_jobs.specs.Causes.{refusal_of}
 use Rattle.vault_jobs.specs.declared.note.Note.TheVariants.{NoMerchant, ClockAhead, NothingWithdrawn}
 use Rattle.vault_app.specs.declared.ending.Ending.{Ending}
 use Rattle.vault_app.specs.declared.ending.Ending.TheVariants.{Done, Noted, Version, Refused, Misnamed}
-use Rattle.vault_app.specs.declared.ending.Ending.TheVariants.{SomeRefused, BadWords, NotOpened, Stopped}
+use Rattle.vault_app.specs.declared.ending.Ending.TheVariants.{Unfinished, SomeRefused, BadWords, NotOpened, Stopped}
 use Rattle.vault_app.specs.declared.note.Note.{Note}
 use Rattle.vault_app.specs.declared.note.Note.TheVariants.{Log, Made, Task}
 use Rattle.vault_app.specs.declared.placeholder.Placeholder.{Placeholder}
 use Rattle.vault_app.specs.declared.placeholder.Placeholder.TheVariants.{Caller, Merchant, Name, Right}
 use Rattle.vault_jobs.specs.Streams.{Known}
 use Rattle.vault_live.specs.Told.{Tells}
+use Rattle.vault_live.specs.declared.subject.Subject.{Subject}
+use Rattle.vault_live.specs.declared.subject.Subject.TheVariants as subject
 use Rattle.vault_wire.specs.Watching.{inner_of, is_stopped}
 use Rattle.vault_wire.specs.declared.watched.Watched.{Watched}
 
@@ -27,6 +29,7 @@ status_of (Noted note) = 0
 status_of Version = 0
 status_of (Refused n) = 1
 status_of (Misnamed placeholder) = 1
+status_of (Unfinished about) = 1
 status_of SomeRefused = 1
 status_of BadWords = 2
 status_of (NotOpened f) = 3
@@ -71,6 +74,11 @@ placeholder_line Merchant = codes "vault: MERCHANT is no name\n"
 placeholder_line Name = codes "vault: NAME is no name\n"
 placeholder_line Right = codes "vault: RIGHT is no right\n"
 
+-- the line on the errors that says which list isn't whole
+abbrev pub unfinished_line : Subject → List ℕ
+unfinished_line subject.Rights = codes "vault: the last line of RIGHTS is not # end\n"
+unfinished_line subject.Merchants = codes "vault: the last line of LIST is not # end\n"
+
 -- the lines on the errors: the words ask for no job
 abbrev pub bad_words_line : List ℕ
 bad_words_line = codes "vault: bad words\n"
@@ -102,8 +110,8 @@ SaysAtMost said Is line_of = said.nothing ⊎ ((x : _) × Is x × said.bytes (li
 
 -- A version and a refusal are said on the output, and what else stands in the way of a job on the errors; the
 -- other stream stays as it was, and at the end of a job, and of a batch with refused rows, both do. Beside a
--- job's line it is said what is to be noted, and beside a refusal which word is no name or no right. Behind
--- the line of bad words it is said why they are.
+-- job's line it is said what is to be noted, and beside a refusal which word is no name or no right, or which
+-- list isn't whole. Behind the line of bad words it is said why they are.
 abbrev pub Says : List ℕ → Ending → Said → Said → Type 0
 Says why Done output errors = output.nothing × errors.nothing
 Says why (Noted note) output errors = output.nothing × errors.bytes (note_line note)
@@ -111,6 +119,8 @@ Says why Version output errors = output.bytes version_line × errors.nothing
 Says why (Refused n) output errors = output.bytes (refusal_line n) × errors.nothing
 Says why (Misnamed placeholder) output errors =
     output.bytes (refusal_line (number_at placeholder)) × errors.bytes (placeholder_line placeholder)
+Says why (Unfinished about) output errors =
+    output.bytes (refusal_line (number_of NotToml)) × errors.bytes (unfinished_line about)
 Says why SomeRefused output errors = output.nothing × errors.nothing
 Says why BadWords output errors = output.nothing × errors.bytes (bad_words_line ++ why)
 Says why (NotOpened f) output errors = output.nothing × errors.bytes (not_opened_line f)

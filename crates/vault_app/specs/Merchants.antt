@@ -1,13 +1,12 @@
 -- The list of a file of merchants.
-use Rattle.std.specs.Prelude.{◌≡◌, ◌≢◌, ℕ, List, [], false}
+use Rattle.std.specs.Prelude.{◌≡◌, ◌≢◌, ℕ, List}
 use Rattle.std.specs.declared.io.ErrorKind.{ErrorKind}
 use Rattle.vault_refusal.specs.Refusal.{number_of}
-use Rattle.vault_refusal.specs.declared.refusal.Refusal.TheVariants.{NotToml, RightsMemory}
+use Rattle.vault_refusal.specs.declared.refusal.Refusal.TheVariants.{RightsMemory}
 use Rattle.vault_merchants.specs.Faults.{IsFault, refusal_of}
 use Rattle.vault_merchants.specs.ListedMerchants.{AreListed, Wanted}
 use Rattle.vault_merchants.specs.declared.fault.MerchantsFault.{MerchantsFault}
 use Rattle.vault_jobs.specs.declared.stop.Stop.TheVariants as stop
-use Rattle.vault_live.specs.Following.{has_end}
 use Rattle.vault_app.specs.Endings.{EndsSo, no_ending}
 use Rattle.vault_app.specs.declared.ending.Ending.{Ending}
 
@@ -23,12 +22,6 @@ AreMerchantsOf says rows = (text : List ℕ) × AreMerchantsIn says text rows
 abbrev pub IsRefusedList : (List ℕ → Type 0) → ℕ → Type 0
 IsRefusedList says n = (text : List ℕ) × (fault : MerchantsFault) × says text
     × IsFault text fault × (n ≡ number_of (refusal_of fault)) × (n ≢ number_of RightsMemory)
-
--- a text that is said lists no merchant, and doesn't end with the line `# end`: before a service it is
--- refused as no document is
-abbrev pub IsBareList : (List ℕ → Type 0) → ℕ → Type 0
-IsBareList says n = (text : List ℕ) × AreMerchantsIn says text [] × (has_end text ≡ false)
-    × (n ≡ number_of NotToml)
 
 -- a job ends without a list: a text that is said is refused, or none is read
 abbrev pub EndsWithoutMerchants : (List ℕ → Type 0) → Ending → Type 0

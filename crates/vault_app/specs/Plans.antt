@@ -11,6 +11,7 @@ use Rattle.vault_words.specs.declared.jobs.Job.TheVariants.{List as Listing}
 use Rattle.vault_words.specs.declared.jobs.Job.TheVariants.{Check, Migrate}
 use Rattle.vault_jobs.specs.declared.stop.Stop.TheVariants as stop
 use Rattle.vault_jobs.specs.declared.task.Task.{Task}
+use Rattle.vault_live.specs.declared.subject.Subject.{Subject}
 use Rattle.vault_app.specs.Asked.{AsksFor, Unasked}
 use Rattle.vault_app.specs.Commands.Batch.{batch_says}
 use Rattle.vault_app.specs.Commands.Check.{check_says}
@@ -24,6 +25,7 @@ use Rattle.vault_app.specs.Commands.RightsFile.{rights_says}
 use Rattle.vault_app.specs.Commands.Serve.{serve_says}
 use Rattle.vault_app.specs.Commands.Sweep.{sweep_says}
 use Rattle.vault_app.specs.Commands.Trial.{trial_says}
+use Rattle.vault_app.specs.Ending.{Said, SaysAtMost, placeholder_line, unfinished_line}
 use Rattle.vault_app.specs.Endings.{EndsSo, no_ending}
 use Rattle.vault_app.specs.Saying.{IsPlanFor, IsTaskFor, Saying}
 use Rattle.vault_app.specs.TaskValues.{AreValues}
@@ -53,6 +55,10 @@ saying (Migrate j) = migrate_says j
 abbrev pub IsMisnamed : Placeholder → Job → Type 0
 IsMisnamed placeholder job = (saying job).misnamed placeholder
 
+-- the list of a job of this isn't whole in this world
+abbrev pub IsUnfinished : World → Subject → Job → Type 0
+IsUnfinished world about job = (saying job).unfinished world about
+
 -- the lives of a job are lives
 abbrev pub HasLives : Job → Type 0
 HasLives job = (saying job).lives
@@ -73,12 +79,13 @@ IsProperPlan (plan.Check path) = Unit {0}
 IsProperPlan (plan.Migrate path) = Unit {0}
 IsProperPlan (plan.Do path t) = AreValues t
 
--- How a job ends without a plan in this world: one of its words is no name, or no right; its list is refused;
--- its moment is the clock's, and there is none; or its list isn't read.
+-- How a job ends without a plan in this world: one of its words is no name, or no right; its list is refused,
+-- or isn't whole; its moment is the clock's, and there is none; or its list isn't read.
 abbrev pub EndsBefore : World → Job → Ending → Type 0
 EndsBefore world job ending = EndsSo (record no_ending {
   misnamed = λ placeholder. IsMisnamed placeholder job;
   refused = (saying job).refused world;
+  unfinished = λ about. IsUnfinished world about job;
   stopped = λ s. (s ≡ stop.Service service.Source) × (saying job).needs_moment
       ⊎ ((why : ErrorKind) × (s ≡ stop.Rights why)) × (saying job).has_list;
 }) ending
@@ -86,6 +93,12 @@ EndsBefore world job ending = EndsSo (record no_ending {
 -- the task that the words of a job ask for, or how it may end without a plan
 abbrev pub ComesToTask : World → Job → Result Task Ending → Type 0
 ComesToTask world job result = MatchResult result (IsTaskOf world job) (EndsBefore world job)
+
+-- Beside a refusal nothing is said on the errors, or which word of the job that is asked for is no name or no
+-- right, or which of its lists isn't whole.
+abbrev pub SaysWhy : World → List Text → Said → Type 0
+SaysWhy world words errors = SaysAtMost errors (λ it. AsksFor words (IsMisnamed it)) placeholder_line
+    ⊎ SaysAtMost errors (λ it. AsksFor words (IsUnfinished world it)) unfinished_line
 
 -- how the words end without a plan: as their job does, or as they ask for none
 abbrev pub EndsPlanless : World → List Text → Ending → Type 0 → Type 0

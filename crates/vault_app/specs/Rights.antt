@@ -1,15 +1,14 @@
 -- The list of a rights file.
-use Rattle.std.specs.Prelude.{◌≡◌, ◌≢◌, ℕ, List, [], false}
+use Rattle.std.specs.Prelude.{◌≡◌, ◌≢◌, ℕ, List}
 use Rattle.std.specs.declared.io.ErrorKind.{ErrorKind}
 use Rattle.toml.specs.Data.{Members}
 use Rattle.vault_refusal.specs.Refusal.{number_of}
-use Rattle.vault_refusal.specs.declared.refusal.Refusal.TheVariants.{NotToml, RightsMemory}
+use Rattle.vault_refusal.specs.declared.refusal.Refusal.TheVariants.{RightsMemory}
 use Rattle.vault_rights.specs.Faults.{IsDocument, IsFault, refusal_of}
 use Rattle.vault_rights.specs.Named.{IsListOf, Names, Row}
 use Rattle.vault_rights.specs.Proper.{IsProper}
 use Rattle.vault_rights.specs.declared.fault.RightsFault.{RightsFault}
 use Rattle.vault_jobs.specs.declared.stop.Stop.TheVariants as stop
-use Rattle.vault_live.specs.Following.{has_end}
 use Rattle.vault_app.specs.Endings.{EndsSo, no_ending}
 use Rattle.vault_app.specs.declared.ending.Ending.{Ending}
 
@@ -27,11 +26,6 @@ IsListed says rows = (text : List ℕ) × IsListedIn says text rows
 abbrev pub IsRefusedText : (List ℕ → Type 0) → ℕ → Type 0
 IsRefusedText says n = (text : List ℕ) × (fault : RightsFault) × says text
     × IsFault text fault × (n ≡ number_of (refusal_of fault)) × (n ≢ number_of RightsMemory)
-
--- a text that is said lists no right, and doesn't end with the line `# end`: before a service it is refused
--- as no document is
-abbrev pub IsBare : (List ℕ → Type 0) → ℕ → Type 0
-IsBare says n = (text : List ℕ) × IsListedIn says text [] × (has_end text ≡ false) × (n ≡ number_of NotToml)
 
 -- a job ends without a list: a text that is said is refused, or none is read
 abbrev pub IsUnlisted : (List ℕ → Type 0) → Ending → Type 0

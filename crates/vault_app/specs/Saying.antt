@@ -3,6 +3,7 @@ use Rattle.std.specs.Prelude.{◌≡◌, ℕ, List, Option, Some, None}
 use Rattle.std.specs.Borrow.{Bor}
 use Rattle.vault_jobs.specs.declared.task.Task.{Task}
 use Rattle.vault_jobs.specs.declared.trial.Trial.{Trial as Asked}
+use Rattle.vault_live.specs.declared.subject.Subject.{Subject}
 use Rattle.vault_app.specs.World.{World}
 use Rattle.vault_app.specs.declared.placeholder.Placeholder.{Placeholder}
 use Rattle.vault_app.specs.declared.plan.Plan.{Plan}
@@ -41,12 +42,14 @@ path_of (OfMove path) = Some path.now
 path_of (OfTask path Is) = Some path.now
 
 -- What is said of a job: that its lives are lives; which of its words is the first that is no name, or no
--- right; by which number it may be refused in a world before there is a plan, for the text of its list; that
--- it may be stopped for want of a moment; that its rights stand in a list; and what it is for.
+-- right; by which number it may be refused in a world before there is a plan, for the text of its list; which
+-- of its lists isn't whole there; that it may be stopped for want of a moment; that its rights stand in a
+-- list; and what it is for.
 pub record Saying : Type 1 where
   pub lives : Type 0
   pub misnamed : Placeholder → Type 0
   pub refused : World → ℕ → Type 0
+  pub unfinished : World → Subject → Type 0
   pub needs_moment : Type 0
   pub has_list : Type 0
   pub purpose : Purpose
@@ -57,6 +60,7 @@ quiet purpose = record {
   lives = Unit {0};
   misnamed = λ placeholder. ⊥;
   refused = λ world n. ⊥;
+  unfinished = λ world about. ⊥;
   needs_moment = ⊥;
   has_list = ⊥;
   purpose = purpose;

@@ -34,15 +34,11 @@ world_at g tells looks paths = record {
 abbrev pub outside_in : World → Outside
 outside_in world = outside world.tells world.looks
 
--- no look is told of
-abbrev pub no_looks : List ℕ → Looks
-no_looks path look text = ⊥
-
 -- nothing is told
 abbrev pub untold : World
 untold = record {
   tells = λ turn now. ⊥;
-  looks = no_looks;
+  looks = λ path look text. ⊥;
   holds = λ path image. ⊥;
   lacks = λ path. ⊥;
   refuses = λ path. ⊥;
@@ -57,6 +53,10 @@ told tells = record untold { tells = tells }
 -- only moments and texts are told
 abbrev pub said : Turns → (List ℕ → List ℕ → Type 0) → World
 said tells says = record untold { tells = tells; says = says }
+
+-- only moments, and which text a file had at which look, are told
+abbrev pub looked : Turns → (List ℕ → Looks) → World
+looked tells looks = record untold { tells = tells; looks = looks }
 
 -- anything may be told
 abbrev pub anything : World

@@ -1,5 +1,6 @@
 //! The files of the host that a service follows.
 use std::fs;
+use std::io::ErrorKind;
 use vault_live::desk::Desk;
 
 /// The most bytes of a list that is followed: 16 MiB.
@@ -22,11 +23,17 @@ impl<'h> HostDesk<'h> {
 impl<'h> Desk for HostDesk<'h> {
     ghost says = { λ _ _ _ _. Unit {0} };
 
-    fn read(&self, path: &str, _look: u64) -> Option<Vec<u8>> {
-        let found = fs::metadata(self.rt, path).ok()?;
+    fn read(&self, path: &str, _look: u64) -> Result<Vec<u8>, ErrorKind> {
+        let found = match fs::metadata(self.rt, path) {
+            Ok(found) => found,
+            Err(error) => return Err(error.kind()),
+        };
         if !found.is_file() || found.len() > MOST {
-            return None;
+            return Err(ErrorKind::InvalidInput);
         }
-        fs::read(self.rt, path).ok()
+        match fs::read(self.rt, path) {
+            Ok(text) => Ok(text),
+            Err(error) => Err(error.kind()),
+        }
     }
 }

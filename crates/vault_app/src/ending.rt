@@ -3,6 +3,7 @@ use crate::note::Note;
 use crate::placeholder::Placeholder;
 use vault_file::fault::NotOpened;
 use vault_jobs::stop::Stop;
+use vault_live::subject::Subject;
 
 /// How a job ended.
 #[derive(Clone, Copy, PartialEq, Eq, Drop)]
@@ -17,6 +18,8 @@ pub enum Ending {
     Refused(u8),
     /// The word at this placeholder is no name, or no right.
     Misnamed(Placeholder),
+    /// The list of rights, or of merchants, isn't whole.
+    Unfinished(Subject),
     /// Some rows of a batch are refused, as their lines say.
     SomeRefused,
     /// The words ask for no job.

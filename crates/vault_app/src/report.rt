@@ -1,14 +1,17 @@
 //! What the program says of an ending.
 ghost use Rattle.std.specs.Prelude.{◌≡◌, ◌++◌, codes, decimal};
 ghost use Rattle.vault_wire.specs.Watching.{inner_of, is_stopped};
-ghost use Rattle.vault_app.specs.Ending.{Says, not_opened_line, said_on, status_of, version_line};
+ghost use Rattle.vault_app.specs.Ending.{Says, not_opened_line, said_on, status_of, unfinished_line};
+ghost use Rattle.vault_app.specs.Ending.{version_line};
 ghost use Rattle.vault_live.specs.Told.{Tells};
 
 use crate::ending::Ending;
 use itoa::Buffer;
 use std::io::Write;
 use vault_file::fault::NotOpened;
+use vault_live::subject::Subject;
 use vault_live::told::tell;
+use vault_refusal::refusal::Refusal;
 use vault_schema::version::NEWEST;
 use vault_wire::watched::Watched;
 use vault_words::jobs::VERSION;
@@ -62,6 +65,16 @@ fn tell_version<W: Write>(output: &mut Watched<W>)
     tell(output, &["vault ", VERSION, ", schema ", schema, "\n"]);
 }
 
+/// The line that says which list isn't whole.
+fn unfinished(about: Subject) -> &'static str
+    ensures { result.now ≡ unfinished_line about }
+{
+    match about {
+        Subject::Rights => "vault: the last line of RIGHTS is not # end\n",
+        Subject::Merchants => "vault: the last line of LIST is not # end\n",
+    }
+}
+
 /// Says how a job ended, and answers the exit status. A line that can't be written changes no status. Behind
 /// the line of bad words stands why they are.
 pub(crate) fn report<W: Write, E: Write>(
@@ -72,8 +85,8 @@ pub(crate) fn report<W: Write, E: Write>(
 ) -> u8
     // it is the ending's exit status
     ensures status { result ≡ status_of ending.now }
-    // the output says a version or a refusal, the errors any other obstacle, a note, or which word is no
-    // name or right, unless the writer fails; all else stays
+    // the output says a version or a refusal, the errors any other obstacle, a note, which word is no name or
+    // right, or which list isn't whole, unless the writer fails; all else stays
     ensures said { Says why.now ending.now (said_on W.contents output.old output.new)
         (said_on E.contents errors.old errors.new) }
 {
@@ -94,6 +107,11 @@ pub(crate) fn report<W: Write, E: Write>(
         Ending::Misnamed(placeholder) => {
             tell_numbered(output, "refused ", placeholder.number());
             tell(errors, &[placeholder.line()]);
+            1
+        }
+        Ending::Unfinished(about) => {
+            tell_numbered(output, "refused ", Refusal::NotToml.number());
+            tell(errors, &[unfinished(*about)]);
             1
         }
         Ending::SomeRefused => 1,

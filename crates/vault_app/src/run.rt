@@ -7,13 +7,14 @@ ghost use Rattle.vault_wire.specs.declared.watched.Watched.{Watched};
 ghost use Rattle.vault_jobs.specs.Streams.{WhereSeen};
 ghost use Rattle.vault_live.specs.Told.{Tells};
 ghost use Rattle.vault_words.specs.Why.{HasFewDigits};
-ghost use Rattle.vault_app.specs.Ending.{SaysAtMost, bad_words_line, note_line, placeholder_line, said_on};
+ghost use Rattle.vault_app.specs.Ending.{SaysAtMost, bad_words_line, note_line, said_on};
 ghost use Rattle.vault_app.specs.Ending.{stop_line};
 ghost use Rattle.vault_app.specs.Jobs.{Does, DoesPlan, DoesRun};
-ghost use Rattle.vault_app.specs.Plans.{EndsPlanless, IsMisnamed, IsPlanOf, IsProperPlan};
+ghost use Rattle.vault_app.specs.Plans.{EndsPlanless, IsPlanOf, IsProperPlan};
+ghost use Rattle.vault_app.specs.Plans.{SaysWhy};
 ghost use Rattle.vault_app.specs.Asked.{AsksFor, IsBatch};
 ghost use Rattle.vault_app.specs.Notes.{MayNote};
-ghost use Rattle.vault_app.specs.World.{World, no_looks, world_at};
+ghost use Rattle.vault_app.specs.World.{World, world_at};
 
 use crate::commands::check::tell_sizes;
 use crate::commands::migrate::{has_no_vault, tell_moved};
@@ -42,27 +43,29 @@ use vault_words::job::job;
 use vault_words::jobs::JobFault;
 
 /// What is to be done for the words, or how the program ends without it. Bad words are explained.
-fn planned<'a, P: Paths, K: Timekeeper, A: AsStr, W: Write>(
+fn planned<'a, P: Paths, K: Timekeeper, D: Desk, A: AsStr, W: Write>(
     rt: &HostRuntime,
     paths: &P,
     time: &K,
+    desk: &D,
     words: &'a [A],
     output: &mut Watched<W>,
 ) -> Result<Plan<'a>, Conclusion>
     // with Ok, nothing went out, and it is a plan of a job that the words ask for
     ensures planned { IfOk result (λ plan. (output.new ≡ output.old) × AsksFor (map A.text words.now)
-        (λ job. IsPlanOf (world_at P.Paths (K.tells time.now) no_looks paths.now) job plan)) }
+        (λ job. IsPlanOf (world_at P.Paths (K.tells time.now) (D.says desk.now) paths.now) job plan)) }
     // with Ok, the parts of the plan's task are values of their types, or the life of its trial is in range
     ensures proper { IfOk result IsProperPlan }
     // with Err, the words' job ends without a plan, the words ask for none, or memory was refused; only help
     // is said
-    ensures planless { let world : World = world_at P.Paths (K.tells time.now) no_looks paths.now in
-        IfErr result (λ it. EndsPlanless world (map A.text words.now) it.ending (output.new ≡ output.old)) }
+    ensures planless { IfErr result (λ it. EndsPlanless
+        (world_at P.Paths (K.tells time.now) (D.says desk.now) paths.now) (map A.text words.now) it.ending
+        (output.new ≡ output.old)) }
     // with Err, what is said of the words shows fewer than ten digits, too few for a card number
     ensures few { IfErr result (λ it. HasFewDigits (string_bytes it.why)) }
 {
     let ending = match job(rt.alloc(), words) {
-        Ok(asked) => match plan_of(rt, paths, time, &asked) {
+        Ok(asked) => match plan_of(rt, paths, time, desk, &asked) {
             Ok(plan) => return Ok(plan),
             Err(ending) => ending,
         },
@@ -141,7 +144,7 @@ fn ended<P: Paths, K: Timekeeper, N: Network, D: Desk, A: AsStr, R: Read, W: Wri
     // what is said of the words shows fewer than ten digits, too few for a card number
     ensures few { HasFewDigits (string_bytes result.0.why) }
 {
-    match planned(rt, &paths, time, words, output) {
+    match planned(rt, &paths, time, desk, words, output) {
         Ok(plan) => {
             let (ending, left) = carry_out(rt, paths, time, network, desk, plan, input, output);
             (Conclusion::of(rt.alloc(), ending), left)
@@ -152,11 +155,12 @@ fn ended<P: Paths, K: Timekeeper, N: Network, D: Desk, A: AsStr, R: Read, W: Wri
 
 /// Reads the words, does their job over the three streams, says how it ended, and answers the exit status and
 /// the files that it leaves. `paths` tells what stands at paths, `time` the moments that the words don't
-/// fix; on `network` a service listens, and `desk` reads the list that it follows.
+/// fix; on `network` a service listens, and `desk` reads the lists that it follows.
 ///
 /// The first word is the program's name. A line on the output or on the errors goes with each status but 0:
 /// `refused n`, `vault: bad words` with lines that say why, `vault: file not opened n` or `n m`,
-/// `vault: stopped n`. Beside `refused n` the errors say which word is no name or no right, if one is none.
+/// `vault: stopped n`. Beside `refused n` the errors say which word is no name or no right, if one is none, or
+/// which list isn't whole.
 /// With 0 they say what is to be noted: that a checked file has a log, that there was no vault to move, that
 /// a merchant that was to be swept isn't known or is far behind the clock, or that there was nothing to
 /// withdraw.
@@ -179,9 +183,10 @@ pub fn run<P: Paths, K: Timekeeper, N: Network, D: Desk, A: AsStr, R: Read, W: W
         (said_on W.contents told output.new) (said_on E.contents errors.old errors.new)) }
     // the status is 0, 1, 2, 3 or 4
     ensures status { (result.0 ≡ 0) ⊎ (result.0 ≡ 1) ⊎ (result.0 ≡ 2) ⊎ (result.0 ≡ 3) ⊎ (result.0 ≡ 4) }
-    // with status 1, nothing went out on the errors, or which word of a job is no name or no right
-    ensures silent { result.0 ≡ 1 → SaysAtMost (said_on E.contents errors.old errors.new)
-        (λ placeholder. AsksFor (map A.text words.now) (IsMisnamed placeholder)) placeholder_line }
+    // with status 1, nothing went out on the errors, or which word of a job is no name or no right, or which
+    // of its lists isn't whole
+    ensures silent { let world : World = world_at P.Paths (K.tells time.now) (D.says desk.now) paths in
+        result.0 ≡ 1 → SaysWhy world (map A.text words.now) (said_on E.contents errors.old errors.new) }
     // with status 0, nothing went out on the errors, or a note that the job which the words ask for may have
     ensures silent_done { result.0 ≡ 0 → SaysAtMost (said_on E.contents errors.old errors.new)
         (λ note. AsksFor (map A.text words.now) (MayNote note)) note_line }

@@ -1,5 +1,8 @@
 -- Bytes that a flush keeps.
-use Rattle.std.proofs.Common.{ℕ, List, ◌++◌, Option, Some, None, ◌∙◌}
+use Rattle.std.proofs.Common.{ℕ, List, ◌++◌, Option, Some, None, ◌∙◌, Bool, arith, inl, inr, length, sym}
+use Rattle.std.proofs.Common.{subst, take}
+use Rattle.std.proofs.lemmas.List.{take_all}
+use Rattle.vault_live.specs.Told.{Tells}
 use Rattle.std.specs.Io.KnownBytes.{Appends, Keeps}
 use Rattle.vault_http.specs.Exchanges.{answer_for, last_text}
 use Rattle.vault_engine.specs.Asking.{texts}
@@ -19,6 +22,17 @@ kept_after None mid new bs h k = tt
 kept_after (Some xs) None new bs h k = absurd h
 kept_after (Some xs) (Some ys) None bs h k = absurd k
 kept_after (Some xs) (Some ys) (Some zs) bs h k = k ∙ h
+
+-- and of a line that was told before one, a beginning
+pub told_after : (old mid new : Option (List ℕ)) (stopped : Bool) (line : List ℕ) → Tells old mid stopped line
+    → Keeps mid new → (n : ℕ) × Appends old new (take n line)
+told_after old mid new stopped line (inl whole) k = (
+  length line,
+  subst (λ bs. Appends old new bs) (sym (take_all (length line) line (omega arith)))
+      (kept_after old mid new line whole k),
+)
+told_after old mid new stopped line (inr (is, (n, below, part))) k =
+    (n, kept_after old mid new (take n line) part k)
 
 -- what was served before a flush is served after it
 pub flushed : (left_old left_new gone : Option (List ℕ)) (w : Passage) (served : Served)

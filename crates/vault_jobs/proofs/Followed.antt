@@ -1,7 +1,6 @@
 -- Lists that are followed, and the offices that follow them.
 use Rattle.std.proofs.Common.{◌≡◌, ◌||◌, List, ℕ, Bool, true, false, Option, Some, None, option_map}
 use Rattle.std.proofs.Common.{refl, subst}
-use Rattle.std.specs.Option.{option_map_or}
 use Rattle.std.specs.Prelude.{IsSomeAnd, is_some}
 use Rattle.vault_rights.proofs.Members.{some_same}
 use Rattle.vault_live.specs.Turns.{Asking}
@@ -33,13 +32,12 @@ module _ {F X D : Type 0} (desk_of : F → D) (file_of : F → List ℕ) (path :
       (subst (λ p. P (λ V cs. A desk p (rows_of f) V cs)) (some_same same_path)
       (subst (λ d. P (λ V cs. A d (file_of f) (rows_of f) V cs)) (some_same same_desk) h))
 
--- an office that has no list doesn't act
-pub acts_not : {F X : Type 0} (file_of : F → List ℕ) (path : X → List ℕ) (o : Option F) (l : Option X)
-    → option_map file_of o ≡ option_map path l → (acts : F → Bool) → is_some l ≡ false
-    → option_map_or acts o false ≡ false
-acts_not file_of path None l same acts none = refl
-acts_not file_of path (Some f) None same acts none = absurd (cc same)
-acts_not file_of path (Some f) (Some it) same acts none = absurd (cc none)
+-- where there is no list none is followed
+pub none_followed : {F X : Type 0} (file_of : F → List ℕ) (path : X → List ℕ) (o : Option F) (l : Option X)
+    → option_map file_of o ≡ option_map path l → is_some l ≡ false → is_some o ≡ false
+none_followed file_of path None l same none = refl
+none_followed file_of path (Some f) None same none = absurd (cc same)
+none_followed file_of path (Some f) (Some it) same none = absurd (cc none)
 
 -- neither of two
 pub neither : (a b : Bool) → a ≡ false → b ≡ false → (a || b) ≡ false

@@ -87,7 +87,7 @@ module _ (unsent : Type 0) (old new : Known) (s : Streams) where
   serve_caused tells asks port most w (Err (Vault f)) ts h = tt
   serve_caused tells asks port most w (Err (Service f)) ts (same, none, inl (is, silent)) =
       subst (λ e. IsCause e s.reader s.writer) (sym is) tt
-  serve_caused tells asks port most w (Err (Service f)) ts (same, none, inr (is, failed)) =
+  serve_caused tells asks port most w (Err (Service f)) ts (same, none, inr (is, failed, part)) =
       subst (λ e. IsCause e s.reader s.writer) (sym is) failed
   serve_caused tells asks port most w (Err (Listener f)) ts h = tt
   serve_caused tells asks port most w (Err (Rights f)) ts h = absurd h

@@ -335,7 +335,8 @@ module _ (H : Type 0) (O N : Content → Type 0) (L : Content → Content → Ty
   commands_end P Q step line (Ok (outcome.Refused n)) unsent old new writer (silent, h) = (silent, step _ h)
   commands_end P Q step line (Ok outcome.SomeRefused) unsent old new writer h = h
   commands_end P Q step line (Err (Vault f)) unsent old new writer (silent, h) = (silent, step _ h)
-  commands_end P Q step line (Err (Service f)) unsent old new writer (is, failed, h) = (is, failed, step _ h)
+  commands_end P Q step line (Err (Service f)) unsent old new writer (is, failed, h, part) =
+      (is, failed, step _ h, part)
   commands_end P Q step line (Err (Listener f)) unsent old new writer h = h
   commands_end P Q step line (Err (Rights f)) unsent old new writer h = h
   commands_end P Q step line (Err (stop.Batch f)) unsent old new writer h = h
@@ -431,8 +432,8 @@ module _ (H : Type 0) (O N : Content → Type 0) (L : Content → Content → Ty
   sweep_ends who now (Ok outcome.SomeRefused) unsent old new writer h = h
   sweep_ends who now (Err (Vault f)) unsent old new writer (silent, h) =
       (silent, sweeps who now (Err f) h)
-  sweep_ends who now (Err (Service f)) unsent old new writer (is, failed, (count, h)) =
-      (is, failed, (count, sweeps who now (Ok (Ok count)) h))
+  sweep_ends who now (Err (Service f)) unsent old new writer (is, failed, (count, h, part)) =
+      (is, failed, (count, sweeps who now (Ok (Ok count)) h, part))
   sweep_ends who now (Err (Listener f)) unsent old new writer h = h
   sweep_ends who now (Err (Rights f)) unsent old new writer h = h
   sweep_ends who now (Err (stop.Batch f)) unsent old new writer h = h

@@ -74,15 +74,20 @@ along w s pairs = record w {
 abbrev pub Along : (List Pair → Type 0) → ℕ → Passage → Streams → (Passage → Type 0) → Type 0
 Along Own most w s P = (pairs : List Pair) × (length pairs ≤ most) × Own pairs × P (along w s pairs)
 
+-- a beginning of this text went out, perhaps all of it
+abbrev pub AppendsPart : Known → Known → List ℕ → Type 0
+AppendsPart old new text = (n : ℕ) × Appends old new (take n text)
+
 -- How commands end that come to a verdict. Done: they came to done, and the line went out. Refused: they came
 -- to this refusal, and nothing went out. Stopped: by the vault, and nothing went out; or by the writer, and
--- they came to done.
+-- they came to done, and a beginning of the line went out.
 abbrev pub CommandsEnd : (Result Verdict Fault → Type 0) → List ℕ → Result Outcome Stop → Output → Type 0
 CommandsEnd Carried line result out = ComesTo (record no_outcome {
   done = (out.writer ≡ false) × Appends out.sent_old out.sent_new line × Carried (Ok (Ok tt));
   refused = λ n. out.unsent × Carried (Ok (Err n));
   vault = λ f. out.unsent × Carried (Err f);
-  service = λ f. (f ≡ service.Write) × (out.writer ≡ true) × Carried (Ok (Ok tt));
+  service = λ f. (f ≡ service.Write) × (out.writer ≡ true) × Carried (Ok (Ok tt))
+      × AppendsPart out.sent_old out.sent_new line;
 }) result
 
 -- How one command ends: as commands do that come to a verdict. Or it takes a right away, and before that the
@@ -92,7 +97,7 @@ ChangeEnds c w result out = CommandsEnd (Carries c w) (codes "done\n") result ou
     ⊎ ((f : Fault) × (result ≡ Err (Vault f)) × out.unsent × FailsToRead w f × IsSome (withdrawn_by c))
 
 -- how a sweep ends: with Done its line says how many were purged, and went out; with a refusal of a purge
--- nothing went out; where the writer failed all were purged
+-- nothing went out; where the writer failed all were purged, and a beginning of the line went out
 abbrev pub SweepEnds : Asker → ℕ → Passage → Result Outcome Stop → Output → Type 0
 SweepEnds who now w result out = ComesTo (record no_outcome {
   done = (out.writer ≡ false) × ((count : ℕ) × Sweeps who now w (Ok (Ok count))
@@ -100,7 +105,8 @@ SweepEnds who now w result out = ComesTo (record no_outcome {
   refused = λ n. out.unsent × Sweeps who now w (Ok (Err n));
   vault = λ f. out.unsent × Sweeps who now w (Err f);
   service = λ f. (f ≡ service.Write) × (out.writer ≡ true)
-      × ((count : ℕ) × Sweeps who now w (Ok (Ok count)));
+      × ((count : ℕ) × Sweeps who now w (Ok (Ok count))
+      × AppendsPart out.sent_old out.sent_new (purged_line count));
 }) result
 
 -- How a sweep ends whose moment the words or the clock gave. At one of the words it ends as above. At one of
@@ -145,6 +151,11 @@ abbrev pub IsListening : ℕ → Known → Known → List Turn → Type 0
 IsListening port old new turns = (bound : ℕ) × (port ≢ 0 → bound ≡ port)
     × ((middle : Known) × Appends old middle (listening_line bound) × AreSaid middle new turns)
 
+-- of the line that says so a beginning went out
+abbrev pub BeginsToListen : ℕ → Known → Known → Type 0
+BeginsToListen port old new = (bound : ℕ) × (port ≢ 0 → bound ≡ port)
+    × AppendsPart old new (listening_line bound)
+
 -- a service: the moments that it is told, what is asked for between two connections, its port, and how many
 -- connections it takes
 pub record Serving : Type 1 where
@@ -162,7 +173,7 @@ serving_by at it = serving_of at.tells (asked_of at it.lists) it.port it.connect
 
 -- How a service on a port ends: it said where it listens, and in its turns each connection that came was
 -- answered, and what was asked for between two was done; or it wasn't begun, for want of digits or of a port,
--- or since the writer failed, and there was no turn.
+-- or since the writer failed, so that a beginning of that line went out; and there was no turn.
 abbrev pub ServeEnds : Serving → Passage → Result Outcome Stop → Output → List Turn → Type 0
 ServeEnds it w result out turns =
     let left : Result Unit ListenFault → Type 0 =
@@ -170,7 +181,8 @@ ServeEnds it w result out turns =
     ComesTo (record no_outcome {
       done = left (Ok tt);
       service = λ f. IsUntouched w × (turns ≡ [])
-          × ((f ≡ service.Source) × out.unsent ⊎ (f ≡ service.Write) × (out.writer ≡ true));
+          × ((f ≡ service.Source) × out.unsent ⊎ (f ≡ service.Write) × (out.writer ≡ true)
+          × BeginsToListen it.port out.sent_old out.sent_new);
       listener = λ f. (f ≡ listener.Accept) × out.unsent × IsUntouched w × (turns ≡ []) ⊎ left (Err f);
     }) result
 

@@ -16,6 +16,10 @@ pub fn answer<W: Write>(output: &mut Watched<W>, parts: &[&str]) -> Result<(), S
     ensures answered { OnOk result (Appends
         (W.contents (inner_of output.old)) (W.contents (inner_of output.new))
         (flat_map (λ part. part.now) parts.now)) }
+    // with Err, a beginning of them, perhaps all, stands behind what the writer held, where that is known
+    ensures cut { OnErr result ((n : ℕ) × Appends
+        (W.contents (inner_of output.old)) (W.contents (inner_of output.new))
+        (take n (flat_map (λ part. part.now) parts.now))) }
     // with Ok, the writer hasn't failed
     ensures writer_ok { GoesOn result output.new }
     // the fault is Write, and the writer has failed

@@ -7,9 +7,8 @@ use vault_changes::changes::ListedRight;
 use vault_core::moment::Moment;
 use vault_live::desk::Desk;
 use vault_live::following::Following;
-use vault_live::kind::Kind;
-use vault_live::office::Maybe;
-use vault_live::sweeps::Sweeps;
+use vault_live::lists::Shops;
+use vault_live::rights::Rights;
 use vault_merchants::read::ListedMerchant;
 
 /// A list that a service follows: the rows that its file has before that, and the moment at which they become
@@ -39,41 +38,35 @@ pub(crate) fn text_of<R>(listed: &Option<ListFile<R>>) -> &[u8]
     }
 }
 
-/// The office that follows a list, where there is one.
-pub(crate) fn office_of<'x, D: Desk, L: Kind>(
+/// The rights file that is followed, where there is one.
+pub(crate) fn rights_of<'x, D: Desk>(
     alloc: Global,
     desk: &'x D,
-    listed: &'x Option<ListFile<L::Row>>,
-) -> Maybe<Following<'x, D, L>>
-    // where there is a list, it looks at its file by this desk
-    ensures desk { option_map (λ office. office.desk.now) result.office
-        ≡ option_map (λ it. desk.now) listed.now }
-    ensures path { option_map (λ office. office.path.now) result.office ≡ option_map path_of listed.now }
+    listed: &'x Option<ListFile<ListedRight>>,
+) -> Option<Following<'x, D, Rights>>
+    // where there is one, it is looked at by this desk
+    ensures desk { option_map (λ it. it.desk.now) result ≡ option_map (λ it. desk.now) listed.now }
+    ensures path { option_map (λ it. it.path.now) result ≡ option_map path_of listed.now }
 {
-    let office = match listed {
+    match listed {
         Some(it) => Some(Following::new(alloc, desk, it.path.as_str())),
         None => None,
-    };
-    Maybe { office }
+    }
 }
 
-/// The office that sweeps the merchants of a list, where there is one.
-pub(crate) fn sweeps_of<'x, D: Desk>(
+/// The list of merchants that is followed, where there is one.
+pub(crate) fn shops_of<'x, D: Desk>(
     alloc: Global,
     desk: &'x D,
     listed: &'x Option<ListFile<ListedMerchant>>,
-) -> Maybe<Sweeps<'x, D>>
-    // where there is a list, it looks at its file by this desk, and begins with its rows
-    ensures desk { option_map (λ office. office.list.desk.now) result.office
-        ≡ option_map (λ it. desk.now) listed.now }
-    ensures path { option_map (λ office. office.list.path.now) result.office
-        ≡ option_map path_of listed.now }
-    ensures rows { option_map (λ office. office.began.now) result.office
-        ≡ option_map (λ it. it.rows.items) listed.now }
+) -> Option<Shops<'x, D>>
+    // where there is one, it is looked at by this desk, and begins with its rows
+    ensures desk { option_map (λ it. it.list.desk.now) result ≡ option_map (λ it. desk.now) listed.now }
+    ensures path { option_map (λ it. it.list.path.now) result ≡ option_map path_of listed.now }
+    ensures rows { option_map (λ it. it.began.now) result ≡ option_map (λ it. it.rows.items) listed.now }
 {
-    let office = match listed {
-        Some(it) => Some(Sweeps::new(alloc, desk, it.path.as_str(), it.rows.as_slice())),
+    match listed {
+        Some(it) => Some(Shops::new(alloc, desk, it.path.as_str(), it.rows.as_slice())),
         None => None,
-    };
-    Maybe { office }
+    }
 }

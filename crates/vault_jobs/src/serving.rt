@@ -11,7 +11,7 @@ ghost use Rattle.vault_store.specs.LookUps.{WasHonest};
 
 use crate::beginning::begin;
 use crate::listening::serve_at;
-use crate::lists::{office_of, sweeps_of, text_of};
+use crate::lists::{rights_of, shops_of, text_of};
 use crate::serve_task::ServeTask;
 use crate::stop::Stop;
 use crate::task::Outcome;
@@ -19,11 +19,7 @@ use std::io::Write;
 use vault_listen::network::Network;
 use vault_listen::time::Timekeeper;
 use vault_live::desk::Desk;
-use vault_live::merchants::Merchants;
-use vault_live::office::{Both, BothKept};
-use vault_live::remembered::Remembered;
-use vault_live::rights::Rights;
-use vault_live::sweeps::Swept;
+use vault_live::lists::{ListsKept, ListsOffice};
 use vault_store::tables::Tables;
 use vault_store::vault::Vault;
 use vault_wire::watched::Watched;
@@ -52,20 +48,11 @@ fn serve_following<K: Timekeeper, N: Network, D: Desk, W: Write, T: Tables>(
     ensures disk_honest { WasHonest T.Tables vault.old vault.new }
 {
     let lists = &service.lists;
-    let office = Both {
-        first: office_of::<D, Merchants>(rt.alloc(), desk, &lists.merchants),
-        second: Both {
-            first: office_of::<D, Rights>(rt.alloc(), desk, &lists.rights),
-            second: sweeps_of(rt.alloc(), desk, &lists.merchants),
-        },
+    let office = ListsOffice {
+        shops: shops_of(rt.alloc(), desk, &lists.merchants),
+        rights: rights_of(rt.alloc(), desk, &lists.rights),
     };
-    let mut kept = BothKept {
-        first: Remembered::new(text_of(&lists.merchants)),
-        second: BothKept {
-            first: Remembered::new(text_of(&lists.rights)),
-            second: Swept::new(text_of(&lists.merchants)),
-        },
-    };
+    let mut kept = ListsKept::new(text_of(&lists.merchants), text_of(&lists.rights));
     serve_at(
         rt,
         time,

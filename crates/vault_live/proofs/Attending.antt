@@ -35,7 +35,7 @@ use Rattle.vault_live.specs.declared.first_commands.End.{End}
 use Rattle.vault_live.specs.declared.first_commands.End.TheVariants as end
 use Rattle.vault_live.specs.declared.news.News.{News}
 use Rattle.vault_live.specs.declared.news.News.TheVariants.{Nothing, Changed, Set, Refused, Unread}
-use Rattle.vault_live.specs.declared.news.News.TheVariants.{Purged, Unswept, Waits}
+use Rattle.vault_live.specs.declared.news.News.TheVariants.{Unfinished, Purged, Unswept, Waits}
 use Rattle.vault_live.specs.declared.subject.Subject.{Subject}
 
 module _ (asks : Asking) (w : Passage) where
@@ -50,6 +50,10 @@ module _ (asks : Asking) (w : Passage) where
 
   pub attend_unread : (about : Subject) (now : ℕ) → IsUntouched w → Attends asks w (Ok (Unread about now))
   attend_unread about now kept = ([], λ V b. (inl refl, refl, kept V b))
+
+  pub attend_unfinished : (about : Subject) (now : ℕ) → IsUntouched w
+      → Attends asks w (Ok (Unfinished about now))
+  attend_unfinished about now kept = ([], λ V b. (inl refl, refl, kept V b))
 
   -- what is held wasn't read, since the store failed
   pub attend_failed : FailsToRead w vault.Store → Attends asks w (Err Store)
@@ -77,6 +81,7 @@ module _ (asks : Asking) (w : Passage) where
       kept (Set count now) idle h = absurd (cc (idle))
       kept (Refused about number now) idle h = absurd (cc (idle))
       kept (Unread about now) idle h = absurd (cc (idle))
+      kept (Unfinished about now) idle h = absurd (cc (idle))
       kept (Purged m count now) idle h = absurd (cc (idle))
       kept (Unswept m number now) idle (cs, h) = λ V b. let it = h V b in subst (Keeps w) it.1 it.2
       kept (Waits m now) idle (cs, h) = λ V b. let it = h V b in

@@ -14,7 +14,7 @@ use Rattle.vault_engine.proofs.JoinedUnits.{appends_both}
 use Rattle.vault_live.specs.News.{line_of}
 use Rattle.vault_live.specs.Subject.{name_of}
 use Rattle.vault_live.specs.Told.{Tells}
-use Rattle.vault_live.specs.declared.news.News.TheVariants.{Changed, Set, Refused, Unread}
+use Rattle.vault_live.specs.declared.news.News.TheVariants.{Changed, Set, Refused, Unread, Unfinished}
 use Rattle.vault_live.specs.declared.subject.Subject.{Subject}
 use Rattle.vault_wire.specs.declared.watched.Watched.{Watched}
 
@@ -134,4 +134,14 @@ told_unread old new stopped about now name a of one told =
     let last : List ℕ = codes " at " ++ (decimal now ++ codes "\n") in
     let line : name_of about ++ (codes " unread" ++ last) ≡ line_of (Unread about now) =
     sym (append_assoc (name_of about) (codes " unread") last) in
+    subst (Tells old new stopped) line (rw (of, one) at told)
+
+pub told_unfinished : (old new : Option (List ℕ)) (stopped : Bool) (about : Subject) (now : ℕ) (name a : List ℕ)
+    → name ≡ name_of about → a ≡ decimal now
+    → Tells old new stopped (name ++ (codes " unfinished at " ++ (a ++ (codes "\n" ++ []))))
+    → Tells old new stopped (line_of (Unfinished about now))
+told_unfinished old new stopped about now name a of one told =
+    let last : List ℕ = codes " at " ++ (decimal now ++ codes "\n") in
+    let line : name_of about ++ (codes " unfinished" ++ last) ≡ line_of (Unfinished about now) =
+    sym (append_assoc (name_of about) (codes " unfinished") last) in
     subst (Tells old new stopped) line (rw (of, one) at told)

@@ -19,7 +19,7 @@ use Rattle.vault_listen.specs.declared.fault.ListenFault.{ListenFault}
 use Rattle.vault_listen.specs.declared.fault.ListenFault.TheVariants.{Source, Store, Memory, Accept}
 use Rattle.vault_store.specs.Applied.{tables_of}
 use Rattle.vault_store.specs.declared.vault.Vault.{Vault}
-use Rattle.vault_live.specs.News.{line_of}
+use Rattle.vault_live.specs.News.{AreNewsValues, line_of}
 use Rattle.vault_live.specs.Told.{Tells}
 use Rattle.vault_live.specs.Turns.{AllKept, AllTurn, AreSaid, Asking, Attends, LastUndecided}
 use Rattle.vault_live.specs.Turns.{Leaves, OneUndecided, Turn, TurnLeaves, came, events_in, turn_of}
@@ -40,8 +40,8 @@ parted_turns tells asks [] more V W turns = (V, refl, turns)
 parted_turns tells asks (Lost ∷ first) more V W turns = parted_turns tells asks first more V W turns
 parted_turns tells asks (Served x ∷ first) more V W (N, on, one, turns) =
     let it = parted_turns tells asks first more N W turns in (it.0, (N, on, one, it.1), it.2)
-parted_turns tells asks (Attended cs news ∷ first) more V W (asked, said, turns) =
-    let it = parted_turns tells asks first more (run cs V) W turns in (it.0, (asked, said, it.1), it.2)
+parted_turns tells asks (Attended cs news ∷ first) more V W (asked, said, values, turns) =
+    let it = parted_turns tells asks first more (run cs V) W turns in (it.0, (asked, said, values, it.1), it.2)
 
 pub came_both : (ts us : List Turn) → came (ts ++ us) ≡ came ts + came us
 came_both [] us = omega arith
@@ -126,8 +126,8 @@ module _ (tells : Turns) (asks : Asking) where
   turns_then (Lost ∷ ts) us V M W one more = turns_then ts us V M W one more
   turns_then (Served x ∷ ts) us V M W (N, on, leads, rest) more =
       (N, on, leads, turns_then ts us N M W rest more)
-  turns_then (Attended cs news ∷ ts) us V M W (asked, said, rest) more =
-      (asked, said, turns_then ts us (run cs V) M W rest more)
+  turns_then (Attended cs news ∷ ts) us V M W (asked, said, values, rest) more =
+      (asked, said, values, turns_then ts us (run cs V) M W rest more)
 
   -- connections in which the store doesn't fail
   led_turns : (xs : List (Option Link)) (V W : Content) → All GoesOn xs → AllLead tells V xs W
@@ -176,10 +176,10 @@ module _ (tells : Turns) (asks : Asking) where
 
 module _ (tells : Turns) (asks : Asking) (w : Passage) where
   -- the turn in which the office was asked
-  pub attend_ok : (news : News) → Attends asks w (Ok news)
+  pub attend_ok : (news : News) → AreNewsValues news → Attends asks w (Ok news)
       → (cs : List Command) × AllKept tells asks (Attended cs news ∷ []) w
-  attend_ok news (cs, h) =
-      (cs, λ V b. let it = h V b in (run cs V, (it.0, it.1, refl), it.2))
+  attend_ok news values (cs, h) =
+      (cs, λ V b. let it = h V b in (run cs V, (it.0, it.1, values, refl), it.2))
 
   -- the turn in which the office failed, and nothing was said
   pub attend_err : (f : ListenFault) → Attends asks w (Err f) → (k : Known)

@@ -30,10 +30,15 @@ AsksAt {X = X} names wants says now V cs = (rows : List X) × AreSettled names s
 abbrev pub IsRefusal : Subject → News → Type 0
 IsRefusal about news = (number now : ℕ) × (news ≡ Refused about number now)
 
--- Where an answer says that no changes are left, all are done that the rows ask for; or none is, and the
--- list is said to be refused.
+-- all is done that the rows ask for by the vault that was held; or nothing is, and it is said that a list of
+-- this is refused
+abbrev pub IsDoneOrRefused : {X : Type 0} → Subject → Wanting X → ℕ → List X → Passage → News → Type 0
+IsDoneOrRefused about wants now rows w news = (V : Content) → IsBefore w V
+    → Keeps w (run (wants now rows V) V) ⊎ (IsRefusal about news × Keeps w V)
+
+-- where an answer says that no changes are left, it is so
 abbrev pub EndsSettled : {X : Type 0} → Subject → Wanting X → ℕ → List X → Passage
     → Result (News × Bool) ListenFault → Type 0
-EndsSettled about wants now rows w (Ok it) = it.1 ≡ false → (V : Content) → IsBefore w V
-    → Keeps w (run (wants now rows V) V) ⊎ (IsRefusal about it.0 × Keeps w V)
+EndsSettled about wants now rows w (Ok it) =
+    it.1 ≡ false → IsDoneOrRefused about wants now rows w it.0
 EndsSettled about wants now rows w (Err f) = Unit {0}

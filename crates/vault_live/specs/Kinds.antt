@@ -1,5 +1,5 @@
 -- Kinds of lists that are followed: which rows a text names, and which commands they ask for.
-use Rattle.std.specs.Prelude.{◌≡◌, ℕ, All, List, true}
+use Rattle.std.specs.Prelude.{◌≡◌, ◌≢◌, ℕ, All, List, true}
 use Rattle.vault_core.specs.Proper.{AllProper}
 use Rattle.vault_core.specs.Table.{after, reply}
 use Rattle.vault_core.specs.Vault.{Vault as Content}
@@ -9,7 +9,7 @@ use Rattle.vault_merchants.specs.Faults as merchants
 use Rattle.vault_merchants.specs.ListedMerchants.{Wanted}
 use Rattle.vault_merchants.specs.declared.fault.MerchantsFault.{MerchantsFault}
 use Rattle.vault_refusal.specs.Refusal.{number_of}
-use Rattle.vault_refusal.specs.declared.refusal.Refusal.TheVariants.{NoMerchant}
+use Rattle.vault_refusal.specs.declared.refusal.Refusal.TheVariants.{NoMerchant, RightsMemory}
 use Rattle.vault_rights.specs.Faults as rights
 use Rattle.vault_rights.specs.Named.{Row}
 use Rattle.vault_rights.specs.declared.fault.RightsFault.{RightsFault}
@@ -35,15 +35,15 @@ pub record AreSteps (cs : List Command) : Type 0 where
   pub proper : AllProper cs
   pub keeps : All KeepsRefused cs
 
--- the text has a fault as a list of rights, which has this number
+-- the text has a fault as a list of rights, which has this number and isn't want of memory
 abbrev pub HasRightsFault : List ℕ → ℕ → Type 0
 HasRightsFault text number = (fault : RightsFault) × rights.IsFault text fault
-    × (number ≡ number_of (rights.refusal_of fault))
+    × (number ≡ number_of (rights.refusal_of fault)) × (number ≢ number_of RightsMemory)
 
 -- the same as a list of merchants
 abbrev pub HasMerchantsFault : List ℕ → ℕ → Type 0
 HasMerchantsFault text number = (fault : MerchantsFault) × merchants.IsFault text fault
-    × (number ≡ number_of (merchants.refusal_of fault))
+    × (number ≡ number_of (merchants.refusal_of fault)) × (number ≢ number_of RightsMemory)
 
 -- the commands that make the rights exactly those of the rows
 abbrev pub rights_changes : Wanting Row

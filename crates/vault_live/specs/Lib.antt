@@ -4,8 +4,10 @@ pub mod Following
 pub mod Kinds
 pub mod Known
 pub mod ListedTexts
+pub mod Lists
 pub mod News
 pub mod Subject
 pub mod Sweeping
+pub mod Taking
 pub mod Told
 pub mod Turns

@@ -14,9 +14,3 @@ abbrev pub IfFaulty : {X : Type 0} → Listed X → (ℕ → Type 0) → Type 0
 IfFaulty Unknown P = Unit {0}
 IfFaulty (Faulty number) P = P number
 IfFaulty (Good rows) P = Unit {0}
-
--- P holds where it is no good list
-abbrev pub IfNone : {X : Type 0} → Listed X → Type 0 → Type 0
-IfNone Unknown P = P
-IfNone (Faulty number) P = P
-IfNone (Good rows) P = Unit {0}

@@ -1,6 +1,6 @@
 -- Sweeps between connections: whose dead tokens are purged, and by whom.
-use Rattle.std.specs.Prelude.{◌≡◌, ◌⊎◌, ℕ, List, Some, true, false, slice_get, take}
-use Rattle.std.specs.Prelude.{IfSome}
+use Rattle.std.specs.Prelude.{◌≡◌, ◌⊎◌, ℕ, List, Option, Some, None, true, false, slice_get, take}
+use Rattle.std.specs.Global.{Vec}
 use Rattle.vault_core.specs.Dead.{dead_tokens}
 use Rattle.vault_core.specs.Keys.{Bytes}
 use Rattle.vault_core.specs.Proper.{AllProper}
@@ -11,14 +11,13 @@ use Rattle.vault_merchants.specs.ListedMerchants.{AreListed, Wanted}
 use Rattle.vault_changes.specs.Grants.{AreDone}
 use Rattle.vault_changes.specs.Moments.{is_merchant_ahead, is_merchant_behind}
 use Rattle.vault_changes.specs.Purges.{purges_of}
-use Rattle.vault_live.specs.Following.{AreSettled, Looks, Remembers}
+use Rattle.vault_live.specs.Following.{AreSettled, Looks}
 use Rattle.vault_live.specs.News.{IsSaidOf}
 use Rattle.vault_live.specs.Turns.{Asking}
 use Rattle.vault_live.specs.declared.news.News.{News}
 use Rattle.vault_live.specs.declared.sweeping.Due.{Due}
 use Rattle.vault_live.specs.declared.sweeping.Due.TheVariants.{Nothing, Ahead, Behind, Purges}
 use Rattle.vault_live.specs.declared.sweeping.Sweeper.{Sweeper}
-use Rattle.vault_live.specs.declared.sweeps.Swept.{Swept}
 
 -- a row of the list names the merchant, and the caller by whom its dead tokens are purged
 abbrev pub NamesSweeper : List Wanted → Sweeper → Type 0
@@ -63,7 +62,7 @@ pub record AsksPurges (began : List Wanted) (says : Looks) (tells : Turns) (V : 
   pub told : tells 0 now
   pub are : AsksFirst sweeper now V cs
 
--- what is remembered is of the file's list, and its rows are those of a text that was settled
-pub record RemembersSweeps (says : Looks) (kept : Swept) : Type 0 where
-  pub list : Remembers AreListed says kept.list
-  pub rows : IfSome kept.rows (λ rows. AreSettled AreListed says rows.items)
+-- the rows of the list in force: those with which the service began, until a text is taken
+abbrev pub rows_in : List Wanted → Option (Vec Wanted) → List Wanted
+rows_in began None = began
+rows_in began (Some rows) = rows.items

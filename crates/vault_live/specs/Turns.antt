@@ -16,7 +16,7 @@ use Rattle.vault_listen.specs.Peers.Event.{Lost as Missed, Came}
 use Rattle.vault_listen.specs.Service.{Leads}
 use Rattle.vault_listen.specs.declared.fault.ListenFault.{ListenFault}
 use Rattle.vault_listen.specs.declared.fault.ListenFault.TheVariants.{Source, Store, Memory, Accept}
-use Rattle.vault_live.specs.News.{IsSaidOf, line_of}
+use Rattle.vault_live.specs.News.{AreNewsValues, IsSaidOf, line_of}
 use Rattle.vault_live.specs.Told.{Tells}
 use Rattle.vault_live.specs.declared.news.News.{News}
 
@@ -69,14 +69,15 @@ AreAsked asks V cs = (cs ≡ []) ⊎ ((rest : List Command) × asks V (cs ++ res
 
 -- Turns come one after the other, each from the vault that those before it leave, the first from V; the last
 -- leaves W. A connection is answered as a service of it alone would be, and the store didn't fail in it; of
--- what is asked for between two, the first commands are carried out, and this is said of them.
+-- what is asked for between two, the first commands are carried out, and this is said of them, in values of
+-- their types.
 abbrev pub AllTurn : Turns → Asking → Content → List Turn → Content → Type 0
 AllTurn tells asks V [] W = W ≡ V
 AllTurn tells asks V (Lost ∷ ts) W = AllTurn tells asks V ts W
 AllTurn tells asks V (Served x ∷ ts) W = (M : Content) × (x.ended ≢ Err fault.Store)
     × Leads tells V M M x × AllTurn tells asks M ts W
 AllTurn tells asks V (Attended cs news ∷ ts) W =
-    AreAsked asks V cs × IsSaidOf news V cs × AllTurn tells asks (run cs V) ts W
+    AreAsked asks V cs × IsSaidOf news V cs × AreNewsValues news × AllTurn tells asks (run cs V) ts W
 
 -- The first of some turns are turns by themselves, and so are the others from the vault that those leave. So
 -- a service may be stopped between two turns.

@@ -1,5 +1,7 @@
 //! Files that are looked at again and again.
-ghost use Rattle.std.specs.Prelude.{IfSome};
+ghost use Rattle.std.specs.Prelude.{IfOk};
+
+use std::io::ErrorKind;
 
 /// Reads files that may change while they are followed.
 ///
@@ -11,8 +13,8 @@ pub trait Desk {
     // at this look, counted from 0, the file at a path had such a text
     ghost says: { Self → List ℕ → ℕ → List ℕ → Type 0 };
 
-    /// The bytes of the file at a path, where it can be read.
-    fn read(&self, path: &str, look: u64) -> Option<Vec<u8>>
+    /// The bytes of the file at a path, or why it isn't read. Look 0 is the one before a service listens.
+    fn read(&self, path: &str, look: u64) -> Result<Vec<u8>, ErrorKind>
         // a text that is given is one that the file had at this look
-        ensures { IfSome result (λ text. says self.now path.now look text.items) };
+        ensures { IfOk result (λ text. says self.now path.now look text.items) };
 }

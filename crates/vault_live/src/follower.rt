@@ -1,8 +1,7 @@
 //! When a text that is followed is taken.
 ghost use Rattle.std.specs.Prelude.{◌≡◌, ◌⊎◌, IsTrue, None, Some};
 ghost use Rattle.std.specs.Bool.{Decides};
-ghost use Rattle.vault_live.specs.Following.{MayFollow, has_end as has_end_line, in_force, pending_of};
-ghost use Rattle.vault_live.specs.Following.{text_in};
+ghost use Rattle.vault_live.specs.Following.{in_force, pending_of, taken_of, text_in};
 
 /// A text that is followed: the one in force, one that was refused, and the one of the last look where it is
 /// another.
@@ -28,23 +27,12 @@ fn is_same(text: &Option<Vec<u8>>, other: &Vec<u8>) -> bool
     }
 }
 
-/// The line that ends a list, behind others and by itself.
-const END: &[u8] = b"\n# end\n";
-
-const ONLY_END: &[u8] = b"# end\n";
-
-/// Whether the last line of a text is that line.
-pub fn has_end(text: &[u8]) -> bool
-    ensures { result ≡ has_end_line text.now }
-{
-    text.ends_with(END) || text == ONLY_END
-}
-
 impl<'x> Followed<'x> {
     /// One that begins with a text that is in force.
     pub fn new(began: &'x [u8]) -> Followed<'x>
         ensures force { in_force result ≡ began.now }
         ensures none { pending_of result ≡ None }
+        ensures untaken { taken_of result ≡ None }
     {
         Followed {
             began,
@@ -64,29 +52,20 @@ impl<'x> Followed<'x> {
         }
     }
 
-    /// Whether this text may follow the one in force: where that ends with a line `# end`, it does too.
-    fn may_follow(&self, text: &[u8]) -> bool
-        ensures { IsTrue result → MayFollow (in_force self.now) text.now }
-    {
-        !has_end(self.text()) || has_end(text)
-    }
-
-    /// Whether a text that a look found is settled and new: the look before saw it too, it is neither the one
-    /// in force nor the one that was refused, and it has the last line of the one in force where that is
-    /// `# end`.
+    /// Whether a text that a look found is settled and new: the look before saw it too, and it is neither the
+    /// one in force nor the one that was refused.
     pub(crate) fn is_settled(&self, text: &Vec<u8>) -> bool
         // it was the file's at the look before
-        ensures before { IsTrue result → pending_of self.now ≡ Some text.now.items }
-        // it isn't cut short, where the one in force tells
-        ensures whole { IsTrue result → MayFollow (in_force self.now) text.now.items }
+        ensures { IsTrue result → pending_of self.now ≡ Some text.now.items }
     {
-        self.text() != text.as_slice() && is_same(&self.pending, text) && self.may_follow(text)
+        self.text() != text.as_slice() && is_same(&self.pending, text)
     }
 
     /// A look found this text, which isn't settled and new: it waits to be seen again, where it is neither
     /// the one in force nor the one that was refused.
     pub(crate) fn wait(&mut self, text: Vec<u8>)
         ensures force { in_force self.new ≡ in_force self.old }
+        ensures taken { taken_of self.new ≡ taken_of self.old }
         // what waits to be seen again is this text, or nothing
         ensures pending { (pending_of self.new ≡ None) ⊎ (pending_of self.new ≡ Some text.items) }
     {
@@ -103,6 +82,7 @@ impl<'x> Followed<'x> {
     /// A settled text is a good list: it is in force.
     pub(crate) fn take(&mut self, text: Vec<u8>)
         ensures force { in_force self.new ≡ text.items }
+        ensures taken { taken_of self.new ≡ Some text.items }
         ensures none { pending_of self.new ≡ None }
     {
         self.pending = None;
@@ -110,10 +90,11 @@ impl<'x> Followed<'x> {
         self.taken = Some(text);
     }
 
-    /// A settled text is no good list: the one in force stays, and this one isn't looked into again until
-    /// another was seen.
+    /// A settled text is no good list, or isn't whole: the one in force stays, and this one isn't looked into
+    /// again until another was seen.
     pub(crate) fn refuse(&mut self, text: Vec<u8>)
         ensures force { in_force self.new ≡ in_force self.old }
+        ensures taken { taken_of self.new ≡ taken_of self.old }
         ensures none { pending_of self.new ≡ None }
     {
         self.pending = None;
@@ -123,6 +104,7 @@ impl<'x> Followed<'x> {
     /// The file wasn't read: what comes next has to be seen twice.
     pub(crate) fn lose(&mut self)
         ensures force { in_force self.new ≡ in_force self.old }
+        ensures taken { taken_of self.new ≡ taken_of self.old }
         ensures none { pending_of self.new ≡ None }
     {
         self.pending = None;

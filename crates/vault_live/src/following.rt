@@ -1,10 +1,11 @@
 //! The office that follows a file of a list.
-ghost use Rattle.std.specs.Prelude.{◌≡◌, ◌⊎◌, Err, IfOk, false, if◌then◌else◌, true};
+ghost use Rattle.std.specs.Prelude.{◌≡◌, ◌⊎◌, ◌+◌, Err, IfOk, IfSome, false, if◌then◌else◌, true};
+ghost use Rattle.std.specs.Bool.{Decides};
 ghost use Rattle.vault_store.specs.Applied.{is_broken};
 ghost use Rattle.vault_engine.specs.Passing.{passage};
 ghost use Rattle.vault_listen.specs.declared.fault.ListenFault.TheVariants.{Store};
-ghost use Rattle.vault_live.specs.Carrying.{AsksAt};
-ghost use Rattle.vault_live.specs.Following.{Remembers};
+ghost use Rattle.vault_live.specs.Carrying.{AsksAt, IsDoneOrRefused};
+ghost use Rattle.vault_live.specs.Following.{IsPaused, LooksOnce, Remembers};
 ghost use Rattle.vault_live.specs.News.{wants_merchant};
 ghost use Rattle.vault_live.specs.Turns.{Attends};
 ghost use Rattle.vault_store.specs.LookUps.{WasHonest};
@@ -12,10 +13,10 @@ ghost use Rattle.vault_store.specs.LookUps.{WasHonest};
 use crate::carrying::carry_list;
 use crate::desk::Desk;
 use crate::kind::Kind;
-use crate::listed::{Listed, take_list};
+use crate::listed::{Taken, take_list};
 use crate::news::News;
 use crate::office::Office;
-use crate::remembered::Remembered;
+use crate::remembered::{Left, Remembered};
 use std::alloc::Global;
 use std::marker::PhantomData;
 use std::time::Duration;
@@ -26,26 +27,27 @@ use vault_refusal::refusal::Refusal;
 use vault_store::tables::Tables;
 use vault_store::vault::Vault;
 
-/// How many milliseconds pass between two looks at least.
-const PAUSE: u64 = 500;
+/// How many nanoseconds pass between two looks at least: half a second.
+const PAUSE: u128 = 500_000_000;
 
-/// The time by a clock that nobody sets, where the next look is due: half a second after the last one. It
-/// isn't where that clock can't be read.
-fn due<Q: Questions>(last: Option<Duration>, questions: &Q) -> Option<Duration> {
-    let now = questions.passed().ok()?;
+/// Whether the next look is due: the first one, and each that comes half a second after the one before it.
+fn is_due(last: Option<Duration>, now: Duration) -> bool
+    ensures { Decides result (IfSome last (λ before. IsPaused before now)) }
+{
     match last {
-        Some(last) if now.saturating_sub(last) < Duration::from_millis(PAUSE) => None,
-        _ => Some(now),
+        Some(last) => now.saturating_sub(last).as_nanos() >= PAUSE,
+        None => true,
     }
 }
 
-/// The rows that wait for a merchant: these, where it is said that they are refused for want of one.
-fn waiting<R: Drop>(news: &News, rows: Vec<R>) -> Option<Vec<R>>
-    ensures { result ≡ (if wants_merchant news.now then Some rows else None) }
+/// What is left behind changes of which this is said, and no others are to be done: nothing; or all, where they
+/// are refused for want of a merchant.
+fn left_behind(news: &News) -> Left
+    ensures { result ≡ (if wants_merchant news.now then Left.Merchant else Left.Nothing) }
 {
     match news {
-        News::Refused(_, number, _) if *number == Refusal::NoMerchant.number() => Some(rows),
-        _ => None,
+        News::Refused(_, number, _) if *number == Refusal::NoMerchant.number() => Left::Merchant,
+        _ => Left::Nothing,
     }
 }
 
@@ -56,14 +58,16 @@ pub(crate) enum Found {
     Nothing,
     /// The file can't be read, and at the look before it could.
     Unread,
+    /// A new text isn't whole.
+    Unfinished,
     /// A new text is no good list, and is refused by this number.
     Faulty(u8),
     /// There are rows whose changes aren't all done.
     Rows,
 }
 
-/// Follows a file of a list. A text that the file has at two looks in a row, and that is a good list, is
-/// carried out.
+/// Follows a file of a list. A text that the file has at two looks in a row, and that is whole and a good
+/// list, is carried out.
 #[derive(Drop)]
 pub struct Following<'x, D, L> {
     alloc: Global,
@@ -91,14 +95,17 @@ impl<'x, D: Desk, L: Kind> Following<'x, D, L> {
         // what is remembered is of this file
         requires { Remembers L.names (D.says self.now.desk.now self.now.path.now) kept.old }
         // what is remembered is of this file still
-        ensures { Remembers L.names (D.says self.now.desk.now self.now.path.now) kept.new }
+        ensures remembers { Remembers L.names (D.says self.now.desk.now self.now.path.now) kept.new }
+        // it is one look, where there can be one more
+        ensures counts { (kept.new.look ≡ kept.old.look) ⊎ (kept.new.look ≡ kept.old.look + 1) }
+        ensures last { kept.new.last ≡ kept.old.last }
     {
         let look = kept.look;
         let Some(next) = look.checked_add(1) else {
             return Found::Nothing;
         };
         kept.look = next;
-        let Some(text) = self.desk.read(self.path, look) else {
+        let Ok(text) = self.desk.read(self.path, look) else {
             kept.list.lose();
             if kept.unread {
                 return Found::Nothing;
@@ -108,17 +115,19 @@ impl<'x, D: Desk, L: Kind> Following<'x, D, L> {
         };
         kept.unread = false;
         match take_list::<L>(self.alloc, &mut kept.list, text) {
-            Listed::Unknown => Found::Nothing,
-            Listed::Faulty(number) => Found::Faulty(number),
-            Listed::Good(rows) => {
+            Taken::Nothing => Found::Nothing,
+            Taken::Unfinished => Found::Unfinished,
+            Taken::Faulty(number) => Found::Faulty(number),
+            Taken::Good(rows) => {
                 kept.rows = Some(rows);
-                kept.waiting = None;
+                kept.left = Left::Changes;
+                kept.is_new = true;
                 Found::Rows
             }
         }
     }
 
-    /// What there is to do now: the rows that are kept; else what a look at the file finds, where it is due.
+    /// What there is to do now: the changes that are left; else what a look at the file finds, where it is due.
     pub(crate) fn next<Q: Questions>(
         &self,
         kept: &mut Remembered<'x, L::Row>,
@@ -127,20 +136,25 @@ impl<'x, D: Desk, L: Kind> Following<'x, D, L> {
         // what is remembered is of this file
         requires { Remembers L.names (D.says self.now.desk.now self.now.path.now) kept.old }
         // what is remembered is of this file still
-        ensures { Remembers L.names (D.says self.now.desk.now self.now.path.now) kept.new }
+        ensures remembers { Remembers L.names (D.says self.now.desk.now self.now.path.now) kept.new }
+        // no look is made, or one, half a second or more after the one before it
+        ensures paused { LooksOnce kept.old kept.new }
     {
-        if kept.rows.is_some() {
+        if kept.left == Left::Changes {
             return Found::Rows;
         }
-        let Some(now) = due(kept.last, questions) else {
+        let Ok(now) = questions.passed() else {
             return Found::Nothing;
         };
+        if !is_due(kept.last, now) {
+            return Found::Nothing;
+        }
         kept.last = Some(now);
         self.look(kept)
     }
 
-    /// Carries out the first changes of the rows that are kept. They are kept on where some are left. Where
-    /// the vault lacks a merchant of them, they wait to be tried again.
+    /// Carries out the first changes of the rows that are kept. Where the vault lacks a merchant of them, they
+    /// wait to be tried again.
     ///
     /// 63 Store: the store failed.
     fn carry<T: Tables>(
@@ -160,21 +174,22 @@ impl<'x, D: Desk, L: Kind> Following<'x, D, L> {
         ensures broken { is_broken vault.new ≡ true → result ≡ Err Store }
         // what is remembered is of this file still
         ensures remembers { Remembers L.names (D.says self.now.desk.now self.now.path.now) kept.new }
-        // rows that are refused for want of a merchant aren't forgotten
+        // changes that are refused for want of a merchant aren't forgotten
         ensures waits { IfOk result (λ news. wants_merchant news ≡ true
-            → (kept.new.waiting ≡ kept.old.rows) ⊎ (kept.new.rows ≡ kept.old.rows)) }
+            → (kept.new.left ≡ Left.Merchant) ⊎ (kept.new.left ≡ kept.old.left)) }
+        // where another number of them is left, all that the rows ask for is done by the vault that was held;
+        // or none is, and the list is said to be refused
+        ensures settled { IfOk result (λ news. (kept.new.left ≡ kept.old.left) ⊎ IfSome kept.old.rows (λ rows.
+            IsDoneOrRefused L.about L.wants now rows.items (passage T.Tables vault.old vault.new) news)) }
         ensures disk_honest { WasHonest T.Tables vault.old vault.new }
     {
-        let Some(rows) = kept.rows.take() else {
+        let Some(rows) = &kept.rows else {
             return Ok(News::Nothing);
         };
         match carry_list::<L, T>(self.alloc, vault, rows.as_slice(), now) {
-            Ok((news, true)) => {
-                kept.rows = Some(rows);
-                Ok(news)
-            }
+            Ok((news, true)) => Ok(news),
             Ok((news, false)) => {
-                kept.waiting = waiting(&news, rows);
+                kept.left = left_behind(&news);
                 Ok(news)
             }
             Err(fault) => Err(fault),
@@ -213,14 +228,15 @@ impl<'x, D: Desk, L: Kind> Office for Following<'x, D, L> {
         match found {
             Found::Nothing => Ok(News::Nothing),
             Found::Unread => Ok(News::Unread(L::subject(), now)),
+            Found::Unfinished => Ok(News::Unfinished(L::subject(), now)),
             Found::Faulty(number) => Ok(News::Refused(L::subject(), number, now)),
             Found::Rows => self.carry(kept, now, vault),
         }
     }
 
     fn again(&self, kept: &mut Remembered<'x, L::Row>) {
-        if let Some(rows) = kept.waiting.take() {
-            kept.rows = Some(rows);
+        if kept.left == Left::Merchant {
+            kept.left = Left::Changes;
         }
     }
 }

@@ -1,16 +1,19 @@
-//! What a text comes to as a list.
-ghost use Rattle.std.specs.Prelude.{◌≡◌, ◌⊎◌, [], None, Some, true};
-ghost use Rattle.vault_live.specs.Following.{MayFollow, has_end as has_end_line, in_force, pending_of};
-ghost use Rattle.vault_live.specs.ListedTexts.{IfFaulty, IfGood, IfNone};
+//! What a text comes to as a list, and at a look.
+ghost use Rattle.std.specs.Prelude.{◌≡◌, ◌⊎◌, None, Some, false, true};
+ghost use Rattle.vault_live.specs.Following.{in_force, pending_of, taken_of};
+ghost use Rattle.vault_live.specs.ListedTexts.{IfFaulty, IfGood};
+ghost use Rattle.vault_live.specs.Taking.{IfRefused, IfTaken, IfUntaken};
+ghost use Rattle.vault_live.specs.Following.{is_whole as is_whole_text};
 
-use crate::follower::{Followed, has_end};
+use crate::follower::Followed;
 use crate::kind::Kind;
+use crate::whole::is_whole;
 use std::alloc::Global;
 
-/// What a text comes to.
+/// What a text comes to as a list.
 #[derive(Drop)]
 pub enum Listed<R> {
-    /// It isn't known: memory was refused, or there is neither a row nor the line that ends a list.
+    /// It isn't known: memory was refused.
     Unknown,
     /// It is no good list, and is refused by this number.
     Faulty(u8),
@@ -18,62 +21,59 @@ pub enum Listed<R> {
     Good(Vec<R>),
 }
 
-/// What a text comes to.
-fn read_list<L: Kind>(alloc: Global, text: &[u8]) -> Listed<L::Row>
-    // the text names the rows
-    ensures good { IfGood result (L.names text.now) }
-    // a good list has a row, or the line that ends one
-    ensures whole { IfGood result (λ rows. rows ≡ [] → has_end_line text.now ≡ true) }
-    // the number is that of the text's fault
-    ensures faulty { IfFaulty result (L.faults text.now) }
-{
-    let rows = match L::read(alloc, text) {
-        Listed::Unknown => return Listed::Unknown,
-        Listed::Faulty(number) => return Listed::Faulty(number),
-        Listed::Good(rows) => rows,
-    };
-    if rows.is_empty() && !has_end(text) {
-        return Listed::Unknown;
-    }
-    Listed::Good(rows)
+/// What comes of a text at a look.
+#[derive(Drop)]
+pub(crate) enum Taken<R> {
+    /// Nothing: it isn't settled and new, or memory was refused for it.
+    Nothing,
+    /// It isn't whole.
+    Unfinished,
+    /// It is no good list, and is refused by this number.
+    Faulty(u8),
+    /// It is a good list of these rows, and in force.
+    Good(Vec<R>),
 }
 
-/// What the text comes to that a file has at a look, where it is settled and new. A good list is in force
-/// then. Where it isn't known what the text comes to, it has to be seen twice again.
-pub(crate) fn take_list<L: Kind>(
-    alloc: Global,
-    list: &mut Followed,
-    text: Vec<u8>,
-) -> Listed<L::Row>
+/// What comes of the text that a file has at a look, where it is settled and new. A list that is whole and
+/// good is in force then. Where memory was refused for it, it has to be seen twice again.
+pub(crate) fn take_list<L: Kind>(alloc: Global, list: &mut Followed, text: Vec<u8>) -> Taken<L::Row>
     // the rows are those of the text, which the look before saw too
-    ensures good { IfGood result (λ rows. (pending_of list.old ≡ Some text.items)
+    ensures good { IfTaken result (λ rows. (pending_of list.old ≡ Some text.items)
         × L.names text.items rows) }
-    // it is in force then, and isn't cut short where the one before tells
-    ensures taken { IfGood result (λ rows. (in_force list.new ≡ text.items)
-        × MayFollow (in_force list.old) text.items) }
+    // it is whole, and in force then
+    ensures taken { IfTaken result (λ rows. (is_whole_text text.items ≡ true)
+        × (taken_of list.new ≡ Some text.items) × (in_force list.new ≡ text.items)) }
     // else the one in force stays
-    ensures stays { IfNone result (in_force list.new ≡ in_force list.old) }
-    // the number is that of the text's fault
-    ensures faulty { IfFaulty result (L.faults text.items) }
+    ensures stays { IfUntaken result ((taken_of list.new ≡ taken_of list.old)
+        × (in_force list.new ≡ in_force list.old)) }
+    // one that is unfinished isn't whole
+    ensures unfinished { result ≡ Taken.Unfinished → is_whole_text text.items ≡ false }
+    // one that is refused is whole, and the number is that of its fault
+    ensures faulty { IfRefused result (λ number. (is_whole_text text.items ≡ true)
+        × L.faults text.items number) }
     // what waits to be seen again is this text, or nothing
     ensures pending { (pending_of list.new ≡ None) ⊎ (pending_of list.new ≡ Some text.items) }
 {
     if !list.is_settled(&text) {
         list.wait(text);
-        return Listed::Unknown;
+        return Taken::Nothing;
     }
-    match read_list::<L>(alloc, text.as_slice()) {
+    if !is_whole(text.as_slice()) {
+        list.refuse(text);
+        return Taken::Unfinished;
+    }
+    match L::read(alloc, text.as_slice()) {
         Listed::Unknown => {
             list.lose();
-            Listed::Unknown
+            Taken::Nothing
         }
         Listed::Faulty(number) => {
             list.refuse(text);
-            Listed::Faulty(number)
+            Taken::Faulty(number)
         }
         Listed::Good(rows) => {
             list.take(text);
-            Listed::Good(rows)
+            Taken::Good(rows)
         }
     }
 }

@@ -2,7 +2,6 @@
 ghost use Rattle.std.specs.Prelude.{◌≡◌, filter, length};
 ghost use Rattle.vault_live.specs.News.{sets as sets_merchant};
 
-use crate::following::Following;
 use crate::kind::Kind;
 use crate::listed::Listed;
 use crate::news::News;
@@ -16,13 +15,9 @@ use vault_merchants::read::{ListedMerchant, read_merchants};
 use vault_store::tables::Tables;
 use vault_store::vault::{Fault, Vault};
 
-/// Lists of merchants.
+/// Lists of merchants. Those of a list are set, and none is ever removed.
 #[derive(Clone, Copy, Drop)]
 pub struct Merchants;
-
-/// Follows a file of merchants. Those of a text that the file has at two looks in a row, and that is a good
-/// list, are set. None is ever removed.
-pub type MerchantsList<'x, D> = Following<'x, D, Merchants>;
 
 /// Whether a command sets a merchant.
 fn sets(command: &Command) -> bool

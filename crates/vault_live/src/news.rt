@@ -25,6 +25,8 @@ pub enum News {
     Refused(Subject, u8, Moment),
     /// The list of rights, or of merchants, can't be read.
     Unread(Subject, Moment),
+    /// A new list of rights, or of merchants, isn't whole.
+    Unfinished(Subject, Moment),
     /// So many dead tokens of a merchant were purged.
     Purged(MerchantId, usize, Moment),
     /// A merchant isn't swept: that is refused by this number.
@@ -109,6 +111,15 @@ fn write_line<W: Write>(output: &mut Watched<W>, news: News)
             &[
                 about.name(),
                 " unread at ",
+                first.format(now.seconds()),
+                "\n",
+            ],
+        ),
+        News::Unfinished(about, now) => tell(
+            output,
+            &[
+                about.name(),
+                " unfinished at ",
                 first.format(now.seconds()),
                 "\n",
             ],

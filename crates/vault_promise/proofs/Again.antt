@@ -16,7 +16,8 @@ use Rattle.vault_app.specs.Asked.{AsksFor}
 use Rattle.vault_app.specs.Plans.{IsTaskOf}
 use Rattle.vault_promise.proofs.PipedMessages.{as_run, commands-append}
 use Rattle.vault_promise.specs.Again.{DidNoPipe, Piped, PipesAgree, RunsAnswerAgain}
-use Rattle.vault_promise.specs.Runs.{Come, Run, Work, at_moments, told_by}
+use Rattle.vault_promise.specs.Runs.{Come, Run, Work, around, outside_of}
+use Rattle.vault_promise.specs.Shapes.{shape_of}
 use Rattle.vault_promise.specs.Standing.{AnsweredIn, AnswersStand, IsRepliedIn, Stand}
 use Rattle.vault_promise.specs.Told.{Tells}
 
@@ -28,8 +29,8 @@ record ArePiped (r : Run) (W : Content) (cs : List Command) : Type 0 where
 
 -- a task answered messages, or it is another
 by_task : (r : Run) (W : Content) (cs : List Command) (t : Task)
-    → AsksFor r.words (λ job. IsTaskOf (at_moments r.moments) job t)
-    → Tells (told_by r.moments) t W cs r.streams
+    → AsksFor r.words (λ job. IsTaskOf (around r) job t)
+    → Tells (outside_of r) (shape_of t W) W cs r.streams
     → DidNoPipe r ⊎ ArePiped r W cs
 by_task r W cs (task.Pipe now digits) asked (xs, are, heard, (fault, sent, went)) = inr (record {
   xs = xs;

@@ -1,7 +1,7 @@
 -- What a batch answered, and what it left undecided, as commands.
 use Rattle.std.proofs.Common.{◌≡◌, ◌⊎◌, ℕ, ◌+◌, ◌<◌, List, [], ◌∷◌, ◌++◌, length, take, map, Option}
 use Rattle.std.proofs.Common.{None, Result, Ok, Err, inl, inr, refl, sym, ap, subst, ◌∙◌, append-nil}
-use Rattle.std.proofs.Common.{append_assoc, IfSome}
+use Rattle.std.proofs.Common.{append_assoc, arith, IfSome}
 use Rattle.std.proofs.Math.Seq.{take-append-add, take-length}
 use Rattle.std.proofs.lemmas.List.{map-append}
 use Rattle.std.proofs.lemmas.List.Elements.{All-head, All-nil, All-tail}
@@ -29,6 +29,8 @@ use Rattle.vault_core.specs.declared.command.Command.{Command}
 use Rattle.vault_core.specs.declared.command.Command.TheVariants.{Tokenize}
 use Rattle.vault_engine.specs.Passing.{IsBefore, Passage, Takes}
 use Rattle.vault_listen.specs.Live.{AreGiven, IsPairOf, Turns}
+use Rattle.std.specs.Io.KnownBytes.{IsAtEnd}
+use Rattle.vault_jobs.specs.Outside.{Outside}
 use Rattle.vault_pan.specs.CardText.{digits_of}
 use Rattle.vault_routes.specs.Wanted.{Wanted}
 use Rattle.vault_jobs.specs.Doing.{BatchEnds, along}
@@ -37,14 +39,14 @@ use Rattle.vault_jobs.specs.declared.stop.Stop.{Stop}
 use Rattle.vault_jobs.specs.declared.stop.Stop.TheVariants as stop
 use Rattle.vault_jobs.specs.declared.task.Outcome.{Outcome}
 use Rattle.vault_jobs.specs.declared.task.Outcome.TheVariants as outcome
-use Rattle.vault_jobs.specs.declared.task.Task.TheVariants as task
 use Rattle.vault_promise.proofs.PipedMessages.{as_run, command_in, commands_then, run_then, wanted_proper}
 use Rattle.vault_promise.proofs.GivenPairs.{given_first, none_given}
 use Rattle.vault_promise.proofs.Proper.{IsFine, all_first, asked_proper, fine_by, proper-first, proper-last}
 use Rattle.vault_promise.proofs.Proper.{refused}
 use Rattle.vault_promise.proofs.TaskAnswers.{Works}
 use Rattle.vault_promise.specs.Runs.{perhaps}
-use Rattle.vault_promise.specs.Told.{CameIn, IsQuiet}
+use Rattle.vault_promise.specs.Shapes.Shape.{Rows}
+use Rattle.vault_promise.specs.Told.{AllDone, CameIn, IsQuiet}
 
 -- what a row wants is a proper command, or none
 row_proper : (who : Asker) (row : Row) (pair : Pair) (now : Option ℕ) (digits : Option (List ℕ))
@@ -99,14 +101,22 @@ next_row : (who : Asker) (s : Streams) (xs : List Asked) (x : Asked) → Asks wh
 next_row who s xs x asks came (Ok c) is = (xs, x, refl, asks, is, came)
 next_row who s xs x asks came (Err n) is = tt
 
-module _ (tells : Turns) (who : Asker) (now : Option ℕ) (digits : Option (List ℕ)) (named : IsName who.caller)
-    (at : IsName who.merchant) (w : Passage) (V : Content) (b : IsBefore w V) (s : Streams) (F : Type 0) where
+module _ (around : Outside) (who : Asker) (now : Option ℕ) (digits : Option (List ℕ))
+    (named : IsName who.caller) (at : IsName who.merchant) (w : Passage) (V : Content) (b : IsBefore w V)
+    (s : Streams) (F : Type 0) where
+  abbrev tells : Turns
+  tells = around.tells
+
   -- of the lines of these rows so many bytes went out
   abbrev Went : List Asked → Type 0
   Went xs = (sent : ℕ) × Appends s.sent_old s.sent_new (take sent (first_line ++ lines V xs))
 
   abbrev Goal : Type 0
-  Goal = Works tells w V (task.Batch who now digits) F s
+  Goal = Works around w V (Rows who now digits) F s
+
+  -- what is told where these rows are all that came in
+  abbrev Ends : List Asked → Type 0
+  Ends xs = F → AllDone around (Rows who now digits) V (commands_of xs) s
 
   all_went : (xs : List Asked) → Appends s.sent_old s.sent_new (first_line ++ lines V xs) → Went xs
   all_went xs went = (
@@ -145,23 +155,23 @@ module _ (tells : Turns) (who : Asker) (now : Option ℕ) (digits : Option (List
     answered : (xs : List Asked)
         → (xs ≡ []) ⊎ ((more : List Fields) × CameIn s (records_with (rows_of xs) ++ more))
         → AreGiven tells now digits (pairs_of xs) → All (Asks who) xs → Went xs
-        → w.left_new (vault_after V xs) (vault_after V xs) → Goal
-    answered xs records of asked went left = record {
+        → w.left_new (vault_after V xs) (vault_after V xs) → Ends xs → Goal
+    answered xs records of asked went left ends = record {
       answered = commands_of xs;
       undecided = None;
       proper = rows_proper xs of.each asked;
       last_proper = tt;
       tells = (xs, asked, refl, record { records = records; given = of }, went);
       next = tt;
-      done = λ _. tt;
+      done = ends;
       left = subst (λ W. w.left_new W W) (as_run V xs) left;
     }
 
     -- no row at all
-    none : Went [] → w.left_new V V → Goal
-    none went left =
+    none : ¬ F → Went [] → w.left_new V V → Goal
+    none never went left =
         answered [] (inl refl) (none_given tells now digits) (All-nil (Asks who)) went
-        (subst (λ W. w.left_new W W) (sym (vault_after-nil Row V)) left)
+        (subst (λ W. w.left_new W W) (sym (vault_after-nil Row V)) left) (λ f. absurd (never f))
 
     quiet_went : Appends s.sent_old s.sent_new [] → Went []
     quiet_went went = (0, went)
@@ -172,12 +182,12 @@ module _ (tells : Turns) (who : Asker) (now : Option ℕ) (digits : Option (List
         (n, subst (λ t. Appends s.sent_old s.sent_new (take n t)) (sym all) went)
 
     -- some rows are answered, and one more is undecided
-    torn : (xs : List Asked) (x : Asked)
+    torn : ¬ F → (xs : List Asked) (x : Asked)
         → BeginRecordsOf s.left_old (records_with (rows_of xs) ++ fields_in x.unit ∷ [])
         → AreGiven tells now digits (pairs_of (xs ++ x ∷ []))
         → All (Asks who) (xs ++ x ∷ []) → Appends s.sent_old s.sent_new (first_line ++ lines V xs)
         → w.left_new (vault_after V xs) (vault_after V (xs ++ x ∷ [])) → Goal
-    torn xs x records of asked went left =
+    torn never xs x records of asked went left =
         let proper : AllProper (commands_of xs ++ commands_in x.wanted) =
         subst AllProper (commands_then xs x) (rows_proper (xs ++ x ∷ []) of.each asked) in
         record {
@@ -199,70 +209,90 @@ module _ (tells : Turns) (who : Asker) (now : Option ℕ) (digits : Option (List
             },
             all_went xs went,
           );
-          done = λ _. tt;
+          done = λ f. absurd (never f);
           left = subst (λ W. w.left_new W (perhaps (run (commands_of xs) V) (command_in x.wanted)))
               (as_run V xs) (subst (λ W. w.left_new (vault_after V xs) W) (run_then V xs x) left);
         }
 
-    whole : (counts : Counts) → IsBatched s.left_old (along w s pairs) who counts → Goal
-    whole counts q =
+    whole : (counts : Counts) → (q : IsBatched s.left_old (along w s pairs) who counts) → Ends q.rows → Goal
+    whole counts q ends =
         let it = q.answered.answered V b in
         answered q.rows (has_rows s q.rows (inl q.records)) (fits (pairs_of q.rows) q.answered.taken)
-        q.answered.asked (all_went q.rows it.0) it.1.1
+        q.answered.asked (all_went q.rows it.0) it.1.1 ends
 
-    stopped : (e : BatchFault) → Stops s.left_old (along w s pairs) who e → Goal
-    stopped fault.BadHeader q = none (quiet_went q.0.0) (q.0.1.1 V b).1
-    stopped fault.Read (inl q) = none (quiet_went q.0) (q.1.1 V b).1
-    stopped fault.Read (inr q) =
+    -- all are answered with tokens, and nothing is left to read
+    all_ended : (counts : Counts) → counts.refused ≡ 0 → IsAtEnd s.left_new
+        → (q : IsBatched s.left_old (along w s pairs) who counts) → Ends q.rows
+    all_ended counts none end q f =
+        let all = q.counted.rows in
+        let both = q.counted.both in
+        let of = q.counted.tokens V b in (
+          q.rows,
+          q.answered.asked,
+          refl,
+          record {
+            records = q.records;
+            ended = end;
+            given = fits (pairs_of q.rows) q.answered.taken;
+            each = omega (arith, all, both, of, none);
+            went = (q.answered.answered V b).0;
+          },
+        )
+
+    stopped : ¬ F → (e : BatchFault) → Stops s.left_old (along w s pairs) who e → Goal
+    stopped never fault.BadHeader q = none never (quiet_went q.0.0) (q.0.1.1 V b).1
+    stopped never fault.Read (inl q) = none never (quiet_went q.0) (q.1.1 V b).1
+    stopped never fault.Read (inr q) =
         let it = q.answered.answered V b in
         answered q.rows (has_rows s q.rows (inr q.records)) (fits (pairs_of q.rows) q.answered.taken)
-        q.answered.asked (all_went q.rows it.0) it.1.1
-    stopped fault.Write (inl q) = none (first_went q.sent q.part q.went) (q.unchanged.1 V b).1
-    stopped fault.Write (inr (rows, next, records, q)) =
+        q.answered.asked (all_went q.rows it.0) it.1.1 (λ f. absurd (never f))
+    stopped never fault.Write (inl q) = none never (first_went q.sent q.part q.went) (q.unchanged.1 V b).1
+    stopped never fault.Write (inr (rows, next, records, q)) =
         let it = q.answered V b in
         answered (rows ++ next ∷ []) (has_one s rows next records)
         (fits (pairs_of (rows ++ next ∷ [])) q.taken) q.asked (part_went rows next q.sent it.1) it.2.1
-    stopped fault.Store (rows, next, records, q) =
+        (λ f. absurd (never f))
+    stopped never fault.Store (rows, next, records, q) =
         let it = q.answered V b in
-        torn rows next records (fits (pairs_of (rows ++ next ∷ [])) q.taken) q.asked it.0 it.1
-    stopped fault.BadRecord q =
+        torn never rows next records (fits (pairs_of (rows ++ next ∷ [])) q.taken) q.asked it.0 it.1
+    stopped never fault.BadRecord q =
         let it = q.answered.answered V b in
         answered q.rows (inr (q.bad ∷ [], inr q.records)) (fits (pairs_of q.rows) q.answered.taken)
-        q.answered.asked (all_went q.rows it.0) it.1.1
-    stopped fault.Memory (inl q) = none (quiet_went q.0) (q.1.1 V b).1
-    stopped fault.Memory (inr (inl (rows, records, q))) =
+        q.answered.asked (all_went q.rows it.0) it.1.1 (λ f. absurd (never f))
+    stopped never fault.Memory (inl q) = none never (quiet_went q.0) (q.1.1 V b).1
+    stopped never fault.Memory (inr (inl (rows, records, q))) =
         let it = q.answered V b in
         answered rows (has_rows s rows (inr records))
         (given_first tells now digits (pairs_of rows) q.unused (fits _ q.taken)) q.asked
-        (all_went rows it.0) it.1.1
-    stopped fault.Memory (inr (inr (rows, next, records, q))) =
+        (all_went rows it.0) it.1.1 (λ f. absurd (never f))
+    stopped never fault.Memory (inr (inr (rows, next, records, q))) =
         let it = q.answered V b in
         answered (rows ++ next ∷ []) (has_one s rows next records)
         (fits (pairs_of (rows ++ next ∷ [])) q.taken) q.asked (part_went rows next 0
         (subst (λ t. Appends s.sent_old s.sent_new (first_line ++ t)) (sym (append-nil (lines V rows))) it.0))
-        it.1.1
-    stopped fault.Source q =
+        it.1.1 (λ f. absurd (never f))
+    stopped never fault.Source q =
         let it = q.answered.answered V b in
         answered q.rows (inr (fields_in q.next ∷ [], inr q.records)) (fits (pairs_of q.rows) q.answered.taken)
-        q.answered.asked (all_went q.rows it.0) it.1.1
+        q.answered.asked (all_went q.rows it.0) it.1.1 (λ f. absurd (never f))
 
-  pub batch_works : (r : Result Outcome Stop) (unread unsent : Type 0) → (unsent → IsQuiet s)
-      → BatchEnds (AreGiven tells now digits) who w r (seen_as unread unsent s) → Goal
-  batch_works (Ok outcome.Done) unread unsent quiet (calm, counts, none, end, (pairs, few, given, q)) =
-      whole pairs given counts q
-  batch_works (Ok (outcome.Refused n)) unread unsent quiet h = absurd h
-  batch_works (Ok outcome.SomeRefused) unread unsent quiet
+  pub batch_works : (r : Result Outcome Stop) → (F → r ≡ Ok outcome.Done) → (unread unsent : Type 0)
+      → (unsent → IsQuiet s) → BatchEnds (AreGiven tells now digits) who w r (seen_as unread unsent s) → Goal
+  batch_works (Ok outcome.Done) fin unread unsent quiet (calm, counts, none, end, (pairs, few, given, q)) =
+      whole pairs given counts q (all_ended pairs given counts none end q)
+  batch_works (Ok (outcome.Refused n)) fin unread unsent quiet h = absurd h
+  batch_works (Ok outcome.SomeRefused) fin unread unsent quiet
       (calm, counts, some, end, (pairs, few, given, q)) =
-      whole pairs given counts q
-  batch_works (Err (stop.Vault f)) unread unsent quiet h = absurd h
-  batch_works (Err (stop.Service f)) unread unsent quiet h = absurd h
-  batch_works (Err (stop.Listener f)) unread unsent quiet h = absurd h
-  batch_works (Err (stop.Rights f)) unread unsent quiet h = absurd h
-  batch_works (Err (stop.Batch f)) unread unsent quiet (inl (is, calm, silent, same)) =
+      whole pairs given counts q (λ f. absurd (cc (fin f)))
+  batch_works (Err (stop.Vault f)) fin unread unsent quiet h = absurd h
+  batch_works (Err (stop.Service f)) fin unread unsent quiet h = absurd h
+  batch_works (Err (stop.Listener f)) fin unread unsent quiet h = absurd h
+  batch_works (Err (stop.Rights f)) fin unread unsent quiet h = absurd h
+  batch_works (Err (stop.Batch f)) fin unread unsent quiet (inl (is, calm, silent, same)) =
       let nil : AreGiven tells now digits [] = none_given tells now digits in
-      none [] nil (quiet_went [] nil (quiet silent)) (same V b).1
-  batch_works (Err (stop.Batch f)) unread unsent quiet (inr (pairs, few, given, inl q)) =
-      stopped pairs given f q
-  batch_works (Err (stop.Batch f)) unread unsent quiet
+      none [] nil (λ d. cc (fin d)) (quiet_went [] nil (quiet silent)) (same V b).1
+  batch_works (Err (stop.Batch f)) fin unread unsent quiet (inr (pairs, few, given, inl q)) =
+      stopped pairs given (λ d. cc (fin d)) f q
+  batch_works (Err (stop.Batch f)) fin unread unsent quiet
       (inr (pairs, few, given, inr (is, (counts, q)))) =
-      whole pairs given counts q
+      whole pairs given counts q (λ d. absurd (cc (fin d)))

@@ -1,7 +1,7 @@
 -- Rights that are made those of a list are these, and no others are left.
 use Rattle.std.proofs.Common.{◌≡◌, ◌||◌, ◌∙◌, ℕ, Bool, true, false, cond, not, List, [], ◌∷◌}
 use Rattle.std.proofs.Common.{◌++◌, length, find, Option, Some, None, inl, inr, refl}
-use Rattle.std.proofs.Common.{arith, sym, ap, Less, Equal, Greater, Ordering}
+use Rattle.std.proofs.Common.{arith, sym, ap, ap₂, subst, suc, zero, Less, Equal, Greater, Ordering, Contains}
 use Rattle.std.proofs.lemmas.Bool.{and_parts}
 use Rattle.std.specs.Cmp.{tied_itself}
 use Rattle.std.specs.FinMap as fin
@@ -23,13 +23,16 @@ use Rattle.vault_core.specs.declared.command.Command.{Command}
 use Rattle.vault_core.specs.declared.command.Command.TheVariants.{Grant, Withdraw}
 use Rattle.vault_core.specs.declared.reply.Reply.TheVariants as answer
 use Rattle.vault_core.specs.declared.row.GrantRow.{GrantRow}
-use Rattle.vault_rights.specs.Named.{Row, row_cmp}
+use Rattle.vault_core.specs.Keys.{Bytes}
+use Rattle.vault_core.specs.declared.right.Right.{Right}
+use Rattle.vault_rights.specs.Named.{Names, Row, row_cmp}
+use Rattle.vault_live.specs.Following.{AreRowsIn}
 use Rattle.vault_sql.proofs.Dead.{has_found}
 use Rattle.vault_changes.specs.Changes.{Held, Key, changes_at, is_as_listed, is_held, is_listed, is_same_end}
 use Rattle.vault_changes.specs.Changes.{missing_rows, right_of, rights_of, surplus_rights, withdrawals_at}
 use Rattle.vault_changes.specs.Grants.{AreDone, grants_at}
 use Rattle.vault_promise.proofs.PipedMessages.{run_append}
-use Rattle.vault_promise.specs.Exact.{RightsBecomeExact, listed_end}
+use Rattle.vault_promise.specs.Exact.{AreRights, AreRightsIn, RightsBecomeExact, listed_end}
 
 -- ---- keys
 
@@ -341,7 +344,71 @@ module _ (now : ℕ) (rows : List Row) (V : Content) (sorted : IsStrictlySortedB
           ∙ ap (option_map (λ g. g.ends)) (given_found rows held k was r sorted is)
           ∙ by_held r lists.0 (is_held held r) refl
 
-pub rights_become_exact : RightsBecomeExact
-rights_become_exact now rows V sorted done caller m right =
+exact_rows : (now : ℕ) (rows : List Row) (V : Content) → IsStrictlySortedBy row_cmp rows
+    → AreDone (length (changes_at true now rows (rights_of V))) (changes_at true now rows (rights_of V)) V
+    → AreRights rows (run (changes_at true now rows (rights_of V)) V)
+exact_rows now rows V sorted done caller m right =
     ap (option_map (λ g. g.ends)) (left_at now rows V sorted done (caller, (m, right)))
     ∙ is_listed_end now rows V sorted done (caller, (m, right))
+
+-- ---- what a text names
+
+-- the row that is found is one
+found_in : (rows : List Row) (k : Key) (r : Row) → find (λ row. same (right_of row) k) rows ≡ Some r
+    → Contains rows r
+found_in [] k r found = absurd (cc found)
+found_in (row ∷ rows) k r found =
+    elim (same (right_of row) k) as (λ b. cond b (Some row) (find (λ row. same (right_of row) k) rows) ≡ Some r
+    → Contains (row ∷ rows) r) [
+      | true ↦ λ found. (0, omega arith, cc found)
+      | false ↦ λ found.
+          let rest = found_in rows k r found in (suc rest.0, omega (arith, rest.1), rest.2)
+    ] found
+
+-- and each row is found by its right
+found_by : (rows : List Row) (r : Row) → IsStrictlySortedBy row_cmp rows → Contains rows r
+    → find (λ row. same (right_of row) (right_of r)) rows ≡ Some r
+unfolding IsStrictlySortedBy
+found_by [] r sorted (k, below, is) = absurd (omega (arith, below))
+found_by (row ∷ rows) r sorted (zero, below, is) =
+    let own : same (right_of row) (right_of r) ≡ true =
+    ap (λ (x : Row). same (right_of row) (right_of x)) (sym is) ∙ same_itself (right_of row) in
+    ap (λ b. cond b (Some row) (find (λ row. same (right_of row) (right_of r)) rows)) own ∙ ap Some is
+found_by (row ∷ rows) r sorted (suc k, below, is) =
+    let rest = found_by rows r sorted.1 (k, omega (arith, below), is) in
+    elim (same (right_of row) (right_of r)) as (λ b. same (right_of row) (right_of r) ≡ b
+    → cond b (Some row) (find (λ row. same (right_of row) (right_of r)) rows) ≡ Some r) [
+      | true ↦ λ own. absurd (let once = listed_once row rows (right_of row) refl sorted.0 in
+          let twice : is_listed rows (right_of row) ≡ true =
+          ap (is_listed rows) (are_same (right_of row) (right_of r) own) ∙ (found_lists rows (right_of r) r rest).1 in
+          cc (once, twice))
+      | false ↦ λ other. rest
+    ] refl
+
+text_rights : (text : List ℕ) (rows : List Row) (V : Content) → AreRowsIn text rows → AreRights rows V
+    → AreRightsIn text V
+text_rights text rows V (document, is, proper, (sorted, lists)) are = (
+  document,
+  is,
+  λ caller m right until. (
+    λ stands. named caller m right until (find (λ row. same (right_of row) (caller, (m, right))) rows) refl
+        (sym (are caller m right) ∙ stands),
+    λ names. are caller m right
+        ∙ ap (option_map (λ row. row.3))
+        (found_by rows (caller, m, right, until) sorted ((lists (caller, m, right, until)).1 names)),
+  ),
+)
+  where
+    named : (caller m : Bytes) (right : Right) (until : Option ℕ) (o : Option Row)
+        → find (λ row. same (right_of row) (caller, (m, right))) rows ≡ o
+        → option_map (λ row. row.3) o ≡ Some until → Names document (caller, m, right, until)
+    named caller m right until None found ends = absurd (cc ends)
+    named caller m right until (Some r) found ends =
+        let key = (found_lists rows (caller, (m, right)) r found).0 in
+        let end : r.3 ≡ until = cc ends in
+        let whole : r ≡ (caller, m, right, until) =
+        ap₂ (λ (k : Key) (e : Option ℕ). (k.0, k.1.0, k.1.1, e)) key end in
+        subst (Names document) whole ((lists r).0 (found_in rows (caller, (m, right)) r found))
+
+pub rights_become_exact : RightsBecomeExact
+rights_become_exact = (exact_rows, text_rights)

@@ -1,6 +1,8 @@
 -- What is told of a task whose clock told these moments is told of one whose clock may tell more.
-use Rattle.std.proofs.Common.{ℕ, List, [], ◌∷◌, ◌++◌, Option, Some, None, inl, inr}
-use Rattle.std.specs.Prelude.{IfSome}
+use Rattle.std.proofs.Common.{ℕ, List, [], ◌∷◌, ◌++◌, Option, Some, None, inl, inr, Result, Ok, Err}
+use Rattle.std.specs.Prelude.{IfOk, IfSome}
+use Rattle.vault_engine.specs.declared.stop.Stop.{Stop as ServeFault}
+use Rattle.vault_http.specs.declared.served.Served.{Served as Ended}
 use Rattle.vault_core.specs.Runs.{run}
 use Rattle.vault_core.specs.Vault.{Vault as Content}
 use Rattle.vault_core.specs.declared.command.Command.{Command}
@@ -20,11 +22,11 @@ use Rattle.vault_jobs.specs.Outside.{Outside}
 use Rattle.vault_jobs.specs.Streams.{Streams}
 use Rattle.vault_jobs.specs.declared.lists.ListFile.{ListFile}
 use Rattle.vault_jobs.specs.declared.lists.Lists.{Lists}
-use Rattle.vault_jobs.specs.declared.task.Task.{Task}
-use Rattle.vault_jobs.specs.declared.task.Task.TheVariants as task
 use Rattle.vault_promise.proofs.GivenPairs.{given_more}
-use Rattle.vault_promise.specs.Told.{AllAnswer, AreAnswered, AreHeard, IsAskedNext, IsLastNext, IsNext, Tells}
-use Rattle.vault_promise.specs.Told.{seen}
+use Rattle.vault_promise.specs.Shapes.{Shape}
+use Rattle.vault_promise.specs.Shapes.Shape.{Commands, Purges, Rows, Messages, Connections, Words}
+use Rattle.vault_promise.specs.Told.{AllAnswer, AllDone, AreAllAnswered, AreAnswered, AreHeard, IsAskedNext}
+use Rattle.vault_promise.specs.Told.{IsLastNext, IsNext, Tells}
 
 module _ (at other : Outside) (so : (turn now : ℕ) → at.tells turn now → other.tells turn now)
     (seen : (path : List ℕ) (look : ℕ) (text : List ℕ) → at.looks path look text → other.looks path look text)
@@ -40,6 +42,7 @@ module _ (at other : Outside) (so : (turn now : ℕ) → at.tells turn now → o
         next = settled.next;
         first = seen path settled.before text settled.first;
         again = seen path look text settled.again;
+        whole = settled.whole;
       },
       are,
     )
@@ -112,43 +115,29 @@ module _ (tells more : Turns) (so : (turn now : ℕ) → tells turn now → more
       → AreAnswered tells now digits V cs s → AreAnswered more now digits V cs s
   answered_more now digits V cs s (xs, are, heard, went) = (xs, are, heard_more now digits s xs heard, went)
 
-  -- what may be asked for, whatever was looked at
-  asks_more : (lists : Lists) (V : Content) (cs : List Command) → asked_of (seen tells) lists V cs
-      → asked_of (seen more) lists V cs
-  asks_more lists V cs asked =
-      looked_more (seen tells) (seen more) so (λ path look text. λ _. tt) lists V cs asked
-
-  all_more : (lists : Lists) (V : Content) (ts : List Turn) (cs : List Command)
-      → AllAnswer tells (asked_of (seen tells) lists) V ts cs
-      → AllAnswer more (asked_of (seen more) lists) V ts cs
-  all_more lists V [] cs told = told
-  all_more lists V (Lost ∷ ts) cs told = all_more lists V ts cs told
-  all_more lists V (Served x ∷ ts) cs (first, rest, is, here, others) =
-      (first, rest, is, answered_more None None V first _ here, all_more lists (run first V) ts rest others)
-  all_more lists V (Attended first news ∷ ts) cs (asked, (rest, is, others)) = (
-    asked_more _ _ (asks_more lists) V first asked,
-    (rest, is, all_more lists (run first V) ts rest others),
-  )
-
-  pub tells_more : (t : Task) (V : Content) (cs : List Command) (s : Streams) → Tells tells t V cs s
-      → Tells more t V cs s
-  tells_more (task.Change c) V cs s told = told
-  tells_more (task.Give rights now) V cs s told = told
-  tells_more (task.Settle rights now) V cs s told = told
-  tells_more (task.SetMerchants rows now) V cs s told = told
-  tells_more (task.Sweep who now giver) V cs s told = told
-  tells_more (task.Batch who now digits) V cs s (asked, own, are, read, went) = (
-    asked,
-    own,
+  whole_more : (now : Option ℕ) (digits : Option (List ℕ)) (V : Content) (cs : List Command) (s : Streams)
+      → AreAllAnswered tells now digits V cs s → AreAllAnswered more now digits V cs s
+  whole_more now digits V cs s (xs, are, it) = (
+    xs,
     are,
-    record { records = read.records; given = given_more tells more so now digits _ read.given },
-    went,
+    record {
+      bytes = it.bytes;
+      messages = it.messages;
+      fault = it.fault;
+      read = it.read;
+      reads = it.reads;
+      given = given_more tells more so now digits _ it.given;
+      asked = it.asked;
+      whole = it.whole;
+      ended = it.ended;
+      went = it.went;
+    },
   )
-  tells_more (task.Pipe now digits) V cs s told = answered_more now digits V cs s told
-  tells_more (task.Serve service) V cs s (inl none) = inl none
-  tells_more (task.Serve service) V cs s (inr (rest, is, done, told)) =
-      inr (rest, is, done, all_more service.lists _ s.turns rest told)
-  tells_more (task.Show it) V cs s told = told
+
+  ok_more : (r : Result Ended ServeFault) (V : Content) (cs : List Command) (s : Streams)
+      → IfOk r (λ n. AreAllAnswered tells None None V cs s) → IfOk r (λ n. AreAllAnswered more None None V cs s)
+  ok_more (Ok n) V cs s it = whole_more None None V cs s it
+  ok_more (Err e) V cs s it = tt
 
   heard_next : (now : Option ℕ) (digits : Option (List ℕ)) (s : Streams) (cs : List Command) (x : Command)
       → IsAskedNext tells now digits s cs x → IsAskedNext more now digits s cs x
@@ -156,29 +145,91 @@ module _ (tells more : Turns) (so : (turn now : ℕ) → tells turn now → more
   heard_next now digits s cs x (xs, it, are, wanted, (heard, same)) =
       (xs, it, are, wanted, (heard_more now digits s xs heard, same))
 
+module _ (at other : Outside) (so : (turn now : ℕ) → at.tells turn now → other.tells turn now)
+    (looks : (path : List ℕ) (look : ℕ) (text : List ℕ) → at.looks path look text
+    → other.looks path look text) where
+  -- what may be asked for between two connections
+  asks_more : (lists : Lists) (V : Content) (cs : List Command) → asked_of at lists V cs
+      → asked_of other lists V cs
+  asks_more lists V cs asked = looked_more at other so looks lists V cs asked
+
+  all_more : (lists : Lists) (V : Content) (ts : List Turn) (cs : List Command)
+      → AllAnswer at.tells (asked_of at lists) V ts cs → AllAnswer other.tells (asked_of other lists) V ts cs
+  all_more lists V [] cs told = told
+  all_more lists V (Lost ∷ ts) cs told = all_more lists V ts cs told
+  all_more lists V (Served x ∷ ts) cs (first, rest, is, here, others) = (
+    first,
+    rest,
+    is,
+    (
+      answered_more at.tells other.tells so None None V first _ here.0,
+      ok_more at.tells other.tells so x.ended V first _ here.1,
+    ),
+    all_more lists (run first V) ts rest others,
+  )
+  all_more lists V (Attended first news ∷ ts) cs (asked, (rest, is, others)) = (
+    (asked_more _ _ (asks_more lists) V first asked.0, asked.1),
+    (rest, is, all_more lists (run first V) ts rest others),
+  )
+
+  pub tells_more : (shape : Shape) (V : Content) (cs : List Command) (s : Streams) → Tells at shape V cs s
+      → Tells other shape V cs s
+  tells_more (Commands all line) V cs s told = told
+  tells_more (Purges who now giver) V cs s told = told
+  tells_more (Rows who now digits) V cs s (asked, own, are, read, went) = (
+    asked,
+    own,
+    are,
+    record { records = read.records; given = given_more at.tells other.tells so now digits _ read.given },
+    went,
+  )
+  tells_more (Messages now digits) V cs s told = answered_more at.tells other.tells so now digits V cs s told
+  tells_more (Connections service) V cs s (inl none) = inl none
+  tells_more (Connections service) V cs s (inr (rest, is, done, said, told)) =
+      inr (rest, is, done, said, all_more service.lists _ s.turns rest told)
+  tells_more (Words text) V cs s told = told
+
+  pub done_more : (shape : Shape) (V : Content) (cs : List Command) (s : Streams) → AllDone at shape V cs s
+      → AllDone other shape V cs s
+  done_more (Commands all line) V cs s done = done
+  done_more (Purges who now giver) V cs s done = done
+  done_more (Rows who now digits) V cs s (asked, own, are, it) = (
+    asked,
+    own,
+    are,
+    record {
+      records = it.records;
+      ended = it.ended;
+      given = given_more at.tells other.tells so now digits _ it.given;
+      each = it.each;
+      went = it.went;
+    },
+  )
+  done_more (Messages now digits) V cs s done = whole_more at.tells other.tells so now digits V cs s done
+  done_more (Connections service) V cs s (rest, is, done, all, said, told) =
+      (rest, is, done, all, said, all_more service.lists _ s.turns rest told)
+  done_more (Words text) V cs s done = done
+
   last_more : (lists : Lists) (V : Content) (ts : List Turn) (cs : List Command) (x : Command)
-      → IsLastNext tells (asked_of (seen tells) lists) V ts cs x
-      → IsLastNext more (asked_of (seen more) lists) V ts cs x
+      → IsLastNext at.tells (asked_of at lists) V ts cs x
+      → IsLastNext other.tells (asked_of other lists) V ts cs x
   last_more lists V ts cs x (inl (first, link, own, are, next)) =
-      inl (first, link, own, are, heard_next None None _ own x next)
+      inl (first, link, own, are, heard_next at.tells other.tells so None None _ own x next)
   last_more lists V ts cs x (inr (first, own, news, before, are, is, asked)) =
       inr (first, own, news, before, are, is, asked_more _ _ (asks_more lists) _ _ asked)
 
-  next_more : (t : Task) (V : Content) (cs : List Command) (s : Streams) (x : Command)
-      → IsNext tells t V cs s x → IsNext more t V cs s x
-  next_more (task.Change c) V cs s x next = next
-  next_more (task.Give rights now) V cs s x next = next
-  next_more (task.Settle rights now) V cs s x next = next
-  next_more (task.SetMerchants rows now) V cs s x next = next
-  next_more (task.Sweep who now giver) V cs s x next = next
-  next_more (task.Batch who now digits) V cs s x next = next
-  next_more (task.Pipe now digits) V cs s x next = heard_next now digits s cs x next
-  next_more (task.Serve service) V cs s x (inl first) = inl first
-  next_more (task.Serve service) V cs s x (inr (rest, is, next)) =
+  next_more : (shape : Shape) (V : Content) (cs : List Command) (s : Streams) (x : Command)
+      → IsNext at shape V cs s x → IsNext other shape V cs s x
+  next_more (Commands all line) V cs s x next = next
+  next_more (Purges who now giver) V cs s x next = next
+  next_more (Rows who now digits) V cs s x next = next
+  next_more (Messages now digits) V cs s x next = heard_next at.tells other.tells so now digits s cs x next
+  next_more (Connections service) V cs s x (inl first) = inl first
+  next_more (Connections service) V cs s x (inr (rest, is, next)) =
       inr (rest, is, last_more service.lists _ s.turns rest x next)
-  next_more (task.Show it) V cs s x next = next
+  next_more (Words text) V cs s x next = next
 
-  pub some_more : (t : Task) (V : Content) (cs : List Command) (s : Streams) (o : Option Command)
-      → IfSome o (IsNext tells t V cs s) → IfSome o (IsNext more t V cs s)
-  some_more t V cs s None next = tt
-  some_more t V cs s (Some x) next = next_more t V cs s x next
+  pub some_more : (shape : Shape) (V : Content) (cs : List Command) (s : Streams) (o : Option Command)
+      → IfSome o (IsNext at shape V cs s) → IfSome o (IsNext other shape V cs s)
+  some_more shape V cs s None next = tt
+  some_more shape V cs s (Some x) next = next_more shape V cs s x next

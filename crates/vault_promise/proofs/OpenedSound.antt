@@ -1,5 +1,5 @@
 -- A run that works on a file found a sound vault in it, or no table.
-use Rattle.std.proofs.Common.{◌≡◌, ◌⊎◌, ℕ, Bool, List, Some, inl, inr, refl, arith, subst, true}
+use Rattle.std.proofs.Common.{◌≡◌, ◌⊎◌, ℕ, List, Some, inl, inr, refl, arith, subst, true}
 use Rattle.clap.specs.Words.{Text}
 use Rattle.sql_tables.specs.Schema.{no_schema}
 use Rattle.sqlite.specs.Files.{file_state}
@@ -30,10 +30,10 @@ use Rattle.vault_words.specs.Commands.{program_app}
 use Rattle.vault_words.specs.Jobs.{IsAsked}
 use Rattle.vault_words.specs.declared.jobs.Job.{Job}
 use Rattle.vault_promise.proofs.OneKind.{only_task}
-use Rattle.vault_promise.proofs.Unplanned.{Fits, IsAt, fits, found_at}
+use Rattle.vault_app.specs.Plans.{saying}
+use Rattle.vault_promise.proofs.Unplanned.{Fits, IsAt, check_beside, fits, found_at, move_beside}
 use Rattle.vault_promise.specs.OpenedSound.{FilesOpenSound, HoldSound, IsNotOpened}
-use Rattle.vault_promise.specs.Runs.{IsFound, Moments}
-use Rattle.vault_promise.specs.Sentences.{AsksTask}
+use Rattle.vault_promise.specs.Runs.{AsksTask, IsFound, Moments, Texts, world_with}
 
 -- what holds a sound vault stands for one
 stands : (s : State) → HoldsSound s → StandsSound s.now
@@ -82,6 +82,7 @@ module _ {D : Type 0} {g : Ghosts D} (world : World) (image : Image) (left : Fil
   by_ending ending.Version opened path at t unread unsent s h = absurd h
   by_ending (ending.Refused n) opened path at t unread unsent s h = worked _ path at h
   by_ending (ending.Misnamed it) opened path at t unread unsent s h = absurd h
+  by_ending (ending.Unfinished it) opened path at t unread unsent s h = absurd h
   by_ending ending.SomeRefused opened path at t unread unsent s h = worked _ path at h
   by_ending ending.BadWords opened path at t unread unsent s h = absurd h
   by_ending (ending.NotOpened why) opened path at t unread unsent s h = absurd (opened (why, refl))
@@ -90,15 +91,20 @@ module _ {D : Type 0} {g : Ghosts D} (world : World) (image : Image) (left : Fil
   all_moments : Moments
   all_moments turn now = true
 
+  all_texts : Texts
+  all_texts = record { said = λ path text. true; looked = λ path look text. true }
+
   by_plan : (words : List Text) → AsksTask words → (job : Job) → IsAsked program_app words job → (p : Plan)
-      → Fits all_moments job p → (end : Ending) → ¬ (IsNotOpened end) → (unread unsent : Type 0) (s : Streams)
+      → Fits (world_with all_moments all_texts) job p → (end : Ending) → ¬ (IsNotOpened end) → (unread unsent : Type 0) (s : Streams)
       → DoesPlan world (Some left) p end (seen_as unread unsent s) → IsAt world image p → HoldSound image
   by_plan words asks job asked (plan.Trial t) fit end opened unread unsent s h at =
       let none = h.0 in absurd (cc)
   by_plan words asks job asked (plan.Check path) fit end opened unread unsent s h at =
-      absurd (only_task anything words asks.0 job asks.2.0 asks.1 asked asks.2.1 fit.0)
+      absurd (only_task anything words asks.0 job asks.2.0 asks.1 asked asks.2.1
+      (check_beside (saying job).purpose fit))
   by_plan words asks job asked (plan.Migrate path) fit end opened unread unsent s h at =
-      absurd (only_task anything words asks.0 job asks.2.0 asks.1 asked asks.2.1 fit)
+      absurd (only_task anything words asks.0 job asks.2.0 asks.1 asked asks.2.1
+      (move_beside (saying job).purpose fit))
   by_plan words asks job asked (plan.Do path t) fit end opened unread unsent s h at =
       by_ending end opened path.now at t unread unsent s h
 
@@ -106,9 +112,13 @@ module _ {D : Type 0} {g : Ghosts D} (world : World) (image : Image) (left : Fil
       → (unread unsent : Type 0) (s : Streams) → DoesWords world (Some left) words end
       (seen_as unread unsent s)
       → IsFound words (λ path. world.holds path image) → HoldSound image
-  unfolding all_moments
+  unfolding all_moments all_texts
   of_words words asks end opened unread unsent s (inl (job, asked, inl (p, is, proper, h))) at =
-      by_plan words asks job asked p (fits world all_moments (λ turn now told. refl) job p is) end opened
+      by_plan words asks job asked p (fits world all_moments all_texts (record {
+        tells = λ turn now told. refl;
+        says = λ path text told. refl;
+        looks = λ path look text told. refl;
+      }) job p is) end opened
       unread unsent s h (found_at world image job p is (λ path named. at job path asked named))
   of_words words asks end opened unread unsent s (inl (job, asked, inr (why, none, calm, silent))) at =
       absurd (cc)

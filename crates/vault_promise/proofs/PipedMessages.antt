@@ -20,12 +20,14 @@ use Rattle.vault_jobs.specs.Doing.{PipeEnds}
 use Rattle.vault_jobs.specs.Streams.{Streams, seen_as}
 use Rattle.vault_jobs.specs.declared.stop.Stop.{Stop}
 use Rattle.vault_jobs.specs.declared.task.Outcome.{Outcome}
-use Rattle.vault_jobs.specs.declared.task.Task.TheVariants as task
-use Rattle.vault_promise.proofs.Answering.{answers_of}
+use Rattle.vault_jobs.specs.declared.task.Outcome.TheVariants as outcome
+use Rattle.vault_jobs.specs.Outside.{Outside}
+use Rattle.vault_promise.proofs.Answering.{all_of, answers_of}
 use Rattle.vault_promise.proofs.Proper.{proper-first, proper-last}
 use Rattle.vault_promise.proofs.TaskAnswers.{Works}
 use Rattle.vault_promise.specs.Runs.{perhaps}
-use Rattle.vault_promise.specs.Told.{AreHeard, IsAskedNext, IsQuiet}
+use Rattle.vault_promise.specs.Shapes.Shape.{Messages}
+use Rattle.vault_promise.specs.Told.{AreAllAnswered, AreHeard, IsAskedNext, IsQuiet}
 
 -- the command that is wanted, where there is one
 abbrev pub command_in : Wanted Command → Option Command
@@ -73,27 +75,31 @@ pub next_asked : (tells : Turns) (now : Option ℕ) (digits : Option (List ℕ))
 next_asked tells now digits s xs x heard same (Ok c) is = (xs, x, refl, is, (heard, same))
 next_asked tells now digits s xs x heard same (Err n) is = tt
 
-module _ (tells : Turns) (now : Option ℕ) (digits : Option (List ℕ)) (w : Passage) (V : Content)
+module _ (at : Outside) (now : Option ℕ) (digits : Option (List ℕ)) (w : Passage) (V : Content)
     (b : IsBefore w V) (s : Streams) (F : Type 0) where
+  abbrev tells : Turns
+  tells = at.tells
+
   answered : (xs us : List (Asked Parts)) (heard : AreHeard tells now digits s xs) → (heard.more ≡ us)
       → length us ≤ 1
       → AllProper (commands_of (xs ++ us))
       → w.left_new (vault_after V xs) (vault_after V (xs ++ us))
       → (e : Option WireFault) × (sent : ℕ)
       × Appends s.sent_old s.sent_new (take sent (texts answer_for V xs ++ last_text e))
-      → Works tells w V (task.Pipe now digits) F s
-  answered xs [] heard same few proper left went = record {
+      → (F → AreAllAnswered tells now digits V (commands_of xs) s)
+      → Works at w V (Messages now digits) F s
+  answered xs [] heard same few proper left went all = record {
     answered = commands_of xs;
     undecided = None;
     proper = subst (λ ys. AllProper (commands_of ys)) (append-nil xs) proper;
     last_proper = tt;
     tells = (xs, refl, heard, went);
     next = tt;
-    done = λ _. tt;
+    done = all;
     left = subst (λ W. w.left_new W W) (as_run V xs)
         (subst (λ ys. w.left_new (vault_after V xs) (vault_after V ys)) (append-nil xs) left);
   }
-  answered xs (x ∷ []) heard same few proper left went =
+  answered xs (x ∷ []) heard same few proper left went all =
       let both : AllProper (commands_of xs ++ commands_in x.wanted) =
       subst AllProper (commands_then xs x) proper in
       record {
@@ -103,16 +109,17 @@ module _ (tells : Turns) (now : Option ℕ) (digits : Option (List ℕ)) (w : Pa
         last_proper = wanted_proper x.wanted (proper-last (commands_of xs) (commands_in x.wanted) both);
         tells = (xs, refl, heard, went);
         next = next_asked tells now digits s xs x heard same x.wanted refl;
-        done = λ _. tt;
+        done = all;
         left = subst (λ W. w.left_new W (perhaps (run (commands_of xs) V) (command_in x.wanted)))
             (as_run V xs) (subst (λ W. w.left_new (vault_after V xs) W) (run_then V xs x) left);
       }
-  answered xs (x ∷ y ∷ us) heard same few proper left went = absurd (omega (arith, few))
+  answered xs (x ∷ y ∷ us) heard same few proper left went all = absurd (omega (arith, few))
 
-  pub pipe_works : (r : Result Outcome Stop) (unread unsent : Type 0)
+  pub pipe_works : (r : Result Outcome Stop) → (F → r ≡ Ok outcome.Done) → (unread unsent : Type 0)
       → (unread → Consumes s.left_old s.left_new []) → (unsent → IsQuiet s)
-      → PipeEnds (AreGiven tells now digits) w r (seen_as unread unsent s) → Works tells w V
-      (task.Pipe now digits) F s
-  pipe_works r unread unsent still quiet h =
+      → PipeEnds (AreGiven tells now digits) w r (seen_as unread unsent s)
+      → Works at w V (Messages now digits) F s
+  pipe_works r fin unread unsent still quiet h =
       let a = answers_of tells now digits w s r unread unsent still quiet h in
       answered a.exchanges a.undecided a.heard a.same a.few a.proper (a.left V b) (a.went V b)
+      (λ f. all_of tells now digits w s V b r unread unsent still quiet h (fin f))

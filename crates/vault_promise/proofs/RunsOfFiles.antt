@@ -1,6 +1,6 @@
 -- Whatever a run does with files, it is one up to the bytes with which the next begins.
 use Rattle.std.proofs.Common.{◌≡◌, ◌⊎◌, ℕ, List, [], Option, Some, None, Result, Ok, Err, Bool, inl, inr}
-use Rattle.std.proofs.Common.{refl, sym, ◌∙◌, arith, subst}
+use Rattle.std.proofs.Common.{refl, sym, ◌∙◌, arith, subst, length}
 use Rattle.std.proofs.Math.Logic.{∥∥₁_map}
 use Rattle.std.specs.Io.KnownBytes.{Appends, Consumes}
 use Rattle.std.specs.Prelude.{ℤ, IfSome}
@@ -40,7 +40,16 @@ use Rattle.vault_words.specs.declared.jobs.Job.{Job}
 use Rattle.vault_app.specs.Jobs.{Does as DoesWords, DoesPlan, IsChecked, IsMoved}
 use Rattle.vault_app.specs.Plans.{IsProperPlan, IsTaskOf, saying}
 use Rattle.vault_app.specs.Asked.{AsksFor, schema_line, sound_line}
-use Rattle.vault_app.specs.Ending.{IsDone}
+use Rattle.vault_app.specs.Ending.{IsDone, Says, said_on}
+use Rattle.vault_app.specs.Endings.{NotedLineEnds}
+use Rattle.vault_app.specs.Commands.Trial.{TrialEnds}
+use Rattle.vault_app.specs.declared.note.Note.{Note}
+use Rattle.vault_jobs.specs.declared.trial.Trial.{Trial}
+use Rattle.vault_jobs.specs.Tasks.{granted_line}
+use Rattle.vault_changes.specs.Grants.{grants_at}
+use Rattle.vault_listen.specs.Live.{Turns}
+use Rattle.vault_wire.specs.Watching.{is_stopped}
+use Rattle.vault_wire.specs.declared.watched.Watched.{Watched}
 use Rattle.vault_app.specs.TaskValues.{AreValues}
 use Rattle.vault_app.specs.World.{World, outside_in}
 use Rattle.vault_file.specs.Moved.{MovesAs, StaysUnmoved}
@@ -54,7 +63,8 @@ use Rattle.vault_app.specs.declared.note.Note.TheVariants as note
 use Rattle.vault_app.specs.declared.plan.Plan.{Plan}
 use Rattle.vault_app.specs.declared.plan.Plan.TheVariants as plan
 use Rattle.vault_promise.proofs.Batching.{batch_works}
-use Rattle.vault_promise.proofs.MoreTold.{some_more, tells_more}
+use Rattle.vault_promise.proofs.GivenPairs.{given_more}
+use Rattle.vault_promise.proofs.MoreTold.{done_more, some_more, tells_more}
 use Rattle.vault_promise.proofs.OneKind.{only_move}
 use Rattle.vault_promise.proofs.PipedMessages.{pipe_works}
 use Rattle.vault_promise.proofs.RunHistories.{perhaps_sound}
@@ -64,12 +74,17 @@ use Rattle.vault_promise.proofs.SettledRights.{changed_works, settle_works, show
 use Rattle.vault_promise.proofs.Spared.{early_free, left_alone, line_free, new_spared, no_task}
 use Rattle.vault_promise.proofs.Spared.{none_checked, none_moved, spared_by, trial_free, unasked_free}
 use Rattle.vault_promise.proofs.Sweeping.{timed_sweep_works}
-use Rattle.vault_promise.proofs.TaskAnswers.{Works, give_works}
-use Rattle.vault_promise.proofs.Unplanned.{Fits, IsAt, any_early, fits, found_at, unasked}
-use Rattle.vault_promise.specs.Runs.{AreNew, AreOf, AsksMove, Bear, Comes, EveryRunIsOne, IsFound, IsRun}
-use Rattle.vault_promise.specs.Runs.{IsSpared, Leads, Leaves, Moments, Spared, Rests, Run, Work}
-use Rattle.vault_promise.specs.Runs.{at_moments, perhaps, told_by}
-use Rattle.vault_promise.specs.Told.{IsNext, IsQuiet, Tells}
+use Rattle.vault_promise.proofs.TaskAnswers.{Works, commands_works, part_of}
+use Rattle.vault_app.specs.Saying.{OfCheck, OfMove, OfTask, OfTrial, Purpose}
+use Rattle.vault_promise.proofs.Unplanned.{Fits, IsAt, IsChecking, any_early, check_stays, fits, found_at}
+use Rattle.vault_promise.proofs.Unplanned.{trial_stays, unasked}
+use Rattle.vault_promise.specs.Runs.{GoesOutAside, IsMoving, IsTrialFor}
+use Rattle.vault_promise.specs.Runs.{AreNew, AreOf, AsksMove, Bear, Comes, EndsSaid, EveryRunIsOne, IsFound}
+use Rattle.vault_promise.specs.Runs.{IsRun, IsSpared, Last, Leads, Leaves, Moments, Spared, Rests, Run}
+use Rattle.vault_promise.specs.Runs.{TellsOnly, Texts, Work, around, last_of, outside_of, perhaps}
+use Rattle.vault_promise.specs.Runs.{said_between, told_by, world_with}
+use Rattle.vault_promise.specs.Shapes.{shape_of}
+use Rattle.vault_promise.specs.Told.{AllDone, IsNext, IsQuiet, Tells, WentPart}
 
 -- nothing came in
 abbrev IsStill : Streams → Type 0
@@ -80,27 +95,28 @@ works : (at : Outside) (t : Task) (w : Passage) (V : Content) (b : IsBefore w V)
     (r : Result Outcome Stop) (it : Option TaskNote) (unread unsent : Type 0)
     → (unread → IsStill s) → (unsent → IsQuiet s) → AreValues t
     → (F : Type 0) → (F → r ≡ Ok outcome.Done) → Does at t w r it (seen_as unread unsent s)
-    → Works at.tells w V t F s
+    → Works at w V (shape_of t V) F s
 works at (task.Change c) w V b sound s r it unread unsent still quiet values F fin h =
-    changed_works at.tells w V b sound s unsent quiet F c values.0 values.1 r fin h.works
+    changed_works at w V b sound s unsent quiet F c values.0 values.1 r fin h.works
 works at (task.Give rights now) w V b sound s r it unread unsent still quiet values F fin h =
-    give_works at.tells w V b s unsent quiet F rights now values r fin h.works
+    commands_works at w V b s unsent quiet F (grants_at now rights.items)
+    (granted_line (length rights.items)) values r fin h.works
 works at (task.Settle rights now) w V b sound s r it unread unsent still quiet values F fin h =
-    settle_works at.tells w V b sound s unsent quiet F rights now values.0 values.1 r fin h.works
+    settle_works at w V b sound s unsent quiet F rights now values.0 values.1 r fin h.works
 works at (task.SetMerchants rows now) w V b sound s r it unread unsent still quiet values F fin h =
-    set_works at.tells w V b sound s unsent quiet F rows now values r fin h.works
+    set_works at w V b sound s unsent quiet F rows now values r fin h.works
 works at (task.Sweep who now giver) w V b sound s r it unread unsent still quiet values F fin h =
-    timed_sweep_works who now values.0 values.1 values.2 at.tells w V b sound s unsent quiet F giver
+    timed_sweep_works who now values.0 values.1 values.2 at w V b sound s unsent quiet F giver
     r fin
     h.works
 works at (task.Batch who now digits) w V b sound s r it unread unsent still quiet values F fin h =
-    batch_works at.tells who now digits values.0 values.1 w V b s F r unread unsent quiet h.works
+    batch_works at who now digits values.0 values.1 w V b s F r fin unread unsent quiet h.works
 works at (task.Pipe now digits) w V b sound s r it unread unsent still quiet values F fin h =
-    pipe_works at.tells now digits w V b s F r unread unsent still quiet h.works
+    pipe_works at now digits w V b s F r fin unread unsent still quiet h.works
 works at (task.Serve service) w V b sound s r it unread unsent still quiet values F fin h =
     listed_serve_works at w V b sound s unsent quiet F service values r fin h.works
 works at (task.Show shown) w V b sound s r it unread unsent still quiet values F fin h =
-    show_works at.tells w V b sound s unsent quiet F shown r fin h.works
+    show_works at w V b sound s unsent quiet F shown r fin h.works
 
 -- who finds no more finds what was found
 finds_less : (image next : Image) (Are : Trees → Type 0)
@@ -157,12 +173,96 @@ IsFrom image r next = (V : Content) (c : Option Command) → Sound V → IfSome 
     → ∥ ((it : Comes V c r) × Leads V c r it next) ∥₁
 
 -- a run from these bytes, at these moments
-abbrev run_of : Image → Moments → List Text → Ending → Streams → Run
-run_of image moments words end s =
-    record { begins = image; words = words; moments = moments; ending = end; streams = s }
+abbrev run_of : Image → Moments → Texts → List Text → Ending → Streams → Last → Run
+run_of image moments texts words end s last = record {
+  begins = image;
+  words = words;
+  moments = moments;
+  texts = texts;
+  ending = end;
+  streams = s;
+  last = last;
+}
 
-module _ {D : Type 0} {g : Ghosts D} (world : World) (image next : Image) (moments : Moments)
-    (so : (turn now : ℕ) → world.tells turn now → told_by moments turn now) where
+-- a job that has a line wrote it, or a beginning of it
+line_out : (text : List ℕ) (noted : Bool) (of : Note) (e : Ending) (s : Streams) (unsent : Type 0)
+    → NotedLineEnds text noted of e (output_with unsent s.sent_old s.sent_new s.writer) → WentPart s text
+line_out text noted of e s unsent (ending.Done, ends, is) = part_of s text ends.1
+line_out text noted of e s unsent (ending.Stopped why, ends, is) = ends.2
+line_out text noted of e s unsent (line, ends, is) = absurd ends
+
+-- so a check and a move
+check_out : (it : Purpose) → IsChecking it → (r : Run) (log : Bool) (told : Result Sizes FileFault)
+    (unsent : Type 0) → (unsent → IsQuiet r.streams)
+    → TellsSizes log told r.ending
+    (output_with unsent r.streams.sent_old r.streams.sent_new r.streams.writer) → GoesOutAside it r
+check_out (OfTrial Is) is r log told unsent quiet tells = absurd is
+check_out (OfCheck path) is r log (Ok sizes) unsent quiet tells =
+    inr (sizes, line_out (sound_line sizes) log note.Log r.ending r.streams unsent tells)
+check_out (OfCheck path) is r log (Err why) unsent quiet tells = inl (quiet tells.1)
+check_out (OfMove path) is r log told unsent quiet tells = absurd is
+check_out (OfTask path Is) is r log told unsent quiet tells = absurd is
+
+move_out : (it : Purpose) → IsMoving it → (r : Run) (was_empty : Bool) (told : Result ℤ FileFault)
+    (unsent : Type 0) → (unsent → IsQuiet r.streams)
+    → TellsMoved was_empty told r.ending
+    (output_with unsent r.streams.sent_old r.streams.sent_new r.streams.writer) → GoesOutAside it r
+move_out (OfTrial Is) is r was_empty told unsent quiet tells = absurd is
+move_out (OfCheck path) is r was_empty told unsent quiet tells = absurd is
+move_out (OfMove path) is r was_empty (Ok version) unsent quiet tells =
+    inr (line_out schema_line was_empty note.Made r.ending r.streams unsent tells)
+move_out (OfMove path) is r was_empty (Err why) unsent quiet tells = inl (quiet tells.1)
+move_out (OfTask path Is) is r was_empty told unsent quiet tells = absurd is
+
+try_out : (it : Purpose) (r : Run) (t : Trial) → IsTrialFor it (around r) t
+    → TrialEnds (told_by r.moments) t r.ending r.streams → GoesOutAside it r
+try_out (OfTrial Is) r t is ends = (t, is, ends)
+try_out (OfCheck path) r t is ends = absurd is
+try_out (OfMove path) r t is ends = absurd is
+try_out (OfTask path Is) r t is ends = absurd is
+
+-- and a trial whose clock may tell more
+trial_out : (tells more : Turns) → ((turn now : ℕ) → tells turn now → more turn now) → (t : Trial)
+    (e : Ending) (s : Streams) → TrialEnds tells t e s → TrialEnds more t e s
+trial_out tells more so t ending.Done s (calm, it) = (
+  calm,
+  record {
+    bytes = it.bytes;
+    messages = it.messages;
+    fault = it.fault;
+    exchanges = it.exchanges;
+    read = it.read;
+    reads = it.reads;
+    fixed = given_more tells more so t.moment t.digits _ it.fixed;
+    asked = it.asked;
+    whole = it.whole;
+    ended = it.ended;
+    sent = it.sent;
+  },
+)
+trial_out tells more so t (ending.Stopped why) s (caused, of, it) = (
+  caused,
+  of,
+  record {
+    bytes = it.bytes;
+    messages = it.messages;
+    exchanges = it.exchanges;
+    rest = it.rest;
+    last = it.last;
+    count = it.count;
+    read = it.read;
+    begins = it.begins;
+    fixed = given_more tells more so t.moment t.digits _ it.fixed;
+    asked = it.asked;
+    first = it.first;
+    ends = it.ends;
+    sent = it.sent;
+  },
+)
+trial_out tells more so t e s h = absurd h
+
+module _ {D : Type 0} {g : Ghosts D} (world : World) (image next : Image) (moments : Moments) (texts : Texts)
+    (so : TellsOnly world moments texts) where
   -- files that keep what they kept
   stays_of : (left : FileStore D g) → Leaves image (Some left) next → Stays image left → (V : Content)
       (c : Option Command) → AreOf image V c → AreOf next V c
@@ -284,24 +384,27 @@ module _ {D : Type 0} {g : Ghosts D} (world : World) (image next : Image) (momen
   module _ (path : List ℕ) (at : world.holds path image) (left : FileStore D g)
       (may : Leaves image (Some left) next) (t : Task) (end : Ending)
       (s : Streams) (values : AreValues t) (r : Run) (ends : r.ending ≡ end)
-      (asked : AsksFor r.words (λ job. IsTaskOf (at_moments r.moments) job t))
-      (of : (X : Content) (cs : List Command) → Tells world.tells t X cs s
-      → Tells (told_by r.moments) t X cs r.streams)
+      (asked : AsksFor r.words (λ job. IsTaskOf (around r) job t)) (says : EndsSaid r)
+      (of : (X : Content) (cs : List Command) → Tells (outside_in world) (shape_of t X) X cs s
+      → Tells (outside_of r) (shape_of t X) X cs r.streams)
+      (of_done : (X : Content) (cs : List Command) → AllDone (outside_in world) (shape_of t X) X cs s
+      → AllDone (outside_of r) (shape_of t X) X cs r.streams)
       (of_next : (X : Content) (cs : List Command) (o : Option Command)
-      → IfSome o (IsNext world.tells t X cs s) → IfSome o (IsNext (told_by r.moments) t X cs r.streams))
+      → IfSome o (IsNext (outside_in world) (shape_of t X) X cs s)
+      → IfSome o (IsNext (outside_of r) (shape_of t X) X cs r.streams))
       (calm : (why : FileFault) → end ≡ ending.NotOpened why → IsQuiet s → Rests r)
       (same : r.begins ≡ image) where
     bear : (X : Content) → Bear image X → Bear r.begins X
     bear X held = subst (λ x. Bear x X) (sym same) held
 
     other : AsksMove r.words → ⊥
-    other asks = no_task (at_moments r.moments) (saying asked.0).purpose t asked.2
+    other asks = no_task (around r) (saying asked.0).purpose t asked.2
         (only_move r.words asks.0 asked.0 asks.1 asked.1 asks.2)
 
     -- a task that worked on the vault W comes to this
     work_on : (V : Content) (c : Option Command) (W : Content) → (W ≡ V) ⊎ (W ≡ perhaps V c)
         → Bear image W → (w : Passage)
-        → Works world.tells w W t (IsDone r.ending) s
+        → Works (outside_in world) w W (shape_of t W) (IsDone r.ending) s
         → ((why : FileFault) → r.ending ≡ ending.NotOpened why → ⊥)
         → ((A B : Content) → w.left_new A B → KeepsEither next A B)
         → (it : Comes V c r) × Leads V c r it next
@@ -318,7 +421,8 @@ module _ {D : Type 0} {g : Ghosts D} (world : World) (image next : Image) (momen
           last_proper = it.last_proper;
           tells = of W it.answered it.tells;
           next = of_next W it.answered it.undecided it.next;
-          done = it.done;
+          done = λ d. of_done W it.answered (it.done d);
+          says = says;
           opens = opens;
         } in
         (inl done, record { of = inl (kept _ _ it.left); newest = λ how. inl (kept _ _ it.left) })
@@ -407,6 +511,7 @@ module _ {D : Type 0} {g : Ghosts D} (world : World) (image next : Image) (momen
             worked (Ok (outcome.Refused n)) None unread unsent still quiet
             (λ d. absurd (subst IsDone (ends ∙ is) d)) (λ why d. absurd (cc (d, ends, is))) h
         by_ending (ending.Misnamed it) is h = absurd h
+        by_ending (ending.Unfinished it) is h = absurd h
         by_ending ending.SomeRefused is h =
             worked (Ok outcome.SomeRefused) None unread unsent still quiet
             (λ d. absurd (subst IsDone (ends ∙ is) d)) (λ why d. absurd (cc (d, ends, is))) h
@@ -420,79 +525,162 @@ module _ {D : Type 0} {g : Ghosts D} (world : World) (image next : Image) (momen
 
   -- a run whose words ask for a job with this plan
   each : (left : Option (FileStore D g)) (words : List Text) (job : Job) → IsAsked program_app words job
-      → (p : Plan) → Fits moments job p → (end : Ending) (s : Streams) (unread unsent : Type 0)
+      → (p : Plan) → Fits (world_with moments texts) job p → (end : Ending) (s : Streams) (last : Last)
+      → EndsSaid (run_of image moments texts words end s last) → (unread unsent : Type 0)
       → (unread → IsStill s) → (unsent → IsQuiet s) → IsProperPlan p
       → DoesPlan world left p end (seen_as unread unsent s)
       → IsAt world image p → Leaves image left next
-      → IsRun (run_of image moments words end s) next
-  each left words job asked (plan.Trial t) asks end s unread unsent still quiet values h at leaves =
-      rests next (run_of image moments words end s)
-      (inr (inr (job, asked, asks.0)))
+      → IsRun (run_of image moments texts words end s last) next
+  each left words job asked (plan.Trial t) asks end s last says unread unsent still quiet values h at leaves =
+      rests next (run_of image moments texts words end s last) (
+        inr (inr (
+          job,
+          asked,
+          try_out (saying job).purpose (run_of image moments texts words end s last) t asks
+              (trial_out world.tells (told_by moments) so.tells t end s h.1),
+        )),
+        says,
+      )
       (λ why is. absurd (trial_free world t end s h.1 why is))
-      (λ d moves. asks.1 (only_move words moves.0 job moves.1 asked moves.2))
+      (λ d moves. trial_stays (saying job).purpose (world_with moments texts) t asks
+      (only_move words moves.0 job moves.1 asked moves.2))
       (subst (λ l. Leaves image l next) h.0 leaves)
-  each (Some left) words job asked (plan.Check path) asks end s unread unsent still quiet values h at leaves =
-      checks_run path.now at left h.1.0 h.1.1 leaves (run_of image moments words end s)
-      (inr (inr (job, asked, asks.0))) refl
-      (λ moves. asks.1 (only_move words moves.0 job moves.1 asked moves.2))
-      h.1.2.0 unsent s.sent_old s.sent_new s.writer h.1.2.2
-  each None words job asked (plan.Check path) asks end s unread unsent still quiet values h at leaves =
-      rests next (run_of image moments words end s)
-      (inr (inr (job, asked, asks.0)))
-      (none_checked g world h.1.0 path.now h.1.1 (run_of image moments words end s) h.1.2.0 unsent
-      s.sent_old s.sent_new s.writer h.1.2.2)
-      (λ d moves. asks.1 (only_move words moves.0 job moves.1 asked moves.2)) leaves
-  each (Some left) words job asked (plan.Migrate path) asks end s unread unsent still quiet values
+  each (Some left) words job asked (plan.Check path) asks end s last says unread unsent still quiet values
       h at leaves =
-      moved path.now at left h.1.0 h.1.1 leaves (run_of image moments words end s)
-      (inr (inr (job, asked, asks))) refl h.1.2.0 unsent s.sent_old s.sent_new s.writer h.1.2.2
-  each None words job asked (plan.Migrate path) asks end s unread unsent still quiet values h at leaves =
-      let r : Run = run_of image moments words end s in
+      checks_run path.now at left h.1.0 h.1.1 leaves (run_of image moments texts words end s last) (
+        inr (inr (
+          job,
+          asked,
+          check_out (saying job).purpose asks (run_of image moments texts words end s last) h.1.2.0 h.1.0 unsent
+              quiet h.1.2.2,
+        )),
+        says,
+      ) refl
+      (λ moves. check_stays (saying job).purpose asks (only_move words moves.0 job moves.1 asked moves.2))
+      h.1.2.0 unsent s.sent_old s.sent_new s.writer h.1.2.2
+  each None words job asked (plan.Check path) asks end s last says unread unsent still quiet values
+      h at leaves =
+      rests next (run_of image moments texts words end s last) (
+        inr (inr (
+          job,
+          asked,
+          check_out (saying job).purpose asks (run_of image moments texts words end s last) h.1.2.0 h.1.0 unsent
+              quiet h.1.2.2,
+        )),
+        says,
+      )
+      (none_checked g world h.1.0 path.now h.1.1 (run_of image moments texts words end s last) h.1.2.0 unsent
+      s.sent_old s.sent_new s.writer h.1.2.2)
+      (λ d moves. check_stays (saying job).purpose asks (only_move words moves.0 job moves.1 asked moves.2))
+      leaves
+  each (Some left) words job asked (plan.Migrate path) asks end s last says unread unsent still quiet values
+      h at leaves =
+      moved path.now at left h.1.0 h.1.1 leaves (run_of image moments texts words end s last) (
+        inr (inr (
+          job,
+          asked,
+          move_out (saying job).purpose asks (run_of image moments texts words end s last) h.1.2.0 h.1.0 unsent
+              quiet h.1.2.2,
+        )),
+        says,
+      ) refl h.1.2.0 unsent s.sent_old s.sent_new s.writer h.1.2.2
+  each None words job asked (plan.Migrate path) asks end s last says unread unsent still quiet values
+      h at leaves =
+      let r : Run = run_of image moments texts words end s last in
       let free = none_moved g world h.1.0 path.now h.1.1 r h.1.2.0 unsent s.sent_old s.sent_new s.writer
       h.1.2.2 in
-      rests next r (inr (inr (job, asked, asks))) free.0 free.1 leaves
-  each (Some left) words job asked (plan.Do path t) asks end s unread unsent still quiet values h at leaves =
-      on_some path.now at left leaves t end s values (run_of image moments words end s)
-      refl (job, asked, asks) (λ X cs told. tells_more world.tells (told_by moments) so t X cs s told)
-      (λ X cs o next. some_more world.tells (told_by moments) so t X cs s o next)
-      (λ why is silent. inr (inl ((why, is), silent)))
+      rests next r (
+        inr (inr (
+          job,
+          asked,
+          move_out (saying job).purpose asks (run_of image moments texts words end s last) h.1.2.0 h.1.0 unsent
+              quiet h.1.2.2,
+        )),
+        says,
+      ) free.0 free.1 leaves
+  each (Some left) words job asked (plan.Do path t) asks end s last says unread unsent still quiet values
+      h at leaves =
+      let r : Run = run_of image moments texts words end s last in
+      let inner : Outside = outside_in world in
+      let outer : Outside = outside_of r in
+      on_some path.now at left leaves t end s values r
+      refl (job, asked, asks) says
+      (λ X cs told. tells_more inner outer so.tells so.looks (shape_of t X) X cs s told)
+      (λ X cs done. done_more inner outer so.tells so.looks (shape_of t X) X cs s done)
+      (λ X cs o next. some_more inner outer so.tells so.looks (shape_of t X) X cs s o next)
+      (λ why is silent. (inr (inl ((why, is), silent)), says))
       refl unread unsent still quiet h
-  each None words job asked (plan.Do path t) asks end s unread unsent still quiet values h at leaves =
-      let r : Run = run_of image moments words end s in
-      rests next r (inr (inl ((h.0, h.1), quiet h.4)))
+  each None words job asked (plan.Do path t) asks end s last says unread unsent still quiet values
+      h at leaves =
+      let r : Run = run_of image moments texts words end s last in
+      rests next r (inr (inl ((h.0, h.1), quiet h.4)), says)
       (spared_by r h.0 h.1 (left_alone world path.now t h.0 h.2))
-      (λ d moves. no_task (at_moments moments) (saying job).purpose t asks
+      (λ d moves. no_task (world_with moments texts) (saying job).purpose t asks
       (only_move words moves.0 job moves.1 asked moves.2)) leaves
 
   -- and whatever words it has
-  all : (left : Option (FileStore D g)) (words : List Text) (end : Ending) (s : Streams)
-      (unread unsent : Type 0) → (unread → IsStill s) → (unsent → IsQuiet s)
+  all : (left : Option (FileStore D g)) (words : List Text) (end : Ending) (s : Streams) (last : Last)
+      → EndsSaid (run_of image moments texts words end s last)
+      → (unread unsent : Type 0) → (unread → IsStill s) → (unsent → IsQuiet s)
       → DoesWords world left words end (seen_as unread unsent s)
       → IsFound words (λ path. world.holds path image) → Leaves image left next
-      → IsRun (run_of image moments words end s) next
-  all left words end s unread unsent still quiet (inl (job, asked, inl (p, is, proper, h))) at leaves =
-      each left words job asked p (fits world moments so job p is) end s unread unsent still quiet proper h
+      → IsRun (run_of image moments texts words end s last) next
+  all left words end s last says unread unsent still quiet (inl (job, asked, inl (p, is, proper, h)))
+      at leaves =
+      each left words job asked p (fits world moments texts so job p is) end s last says unread unsent still
+      quiet proper h
       (found_at world image job p is (λ path named. at job path asked named)) leaves
-  all left words end s unread unsent still quiet
+  all left words end s last says unread unsent still quiet
       (inl (job, asked, inr (why, none, calm, silent))) at leaves =
       let free = early_free world job end why in
-      rests next (run_of image moments words end s)
-      (inl (inl ((job, asked, any_early world job end why), quiet silent)))
+      rests next (run_of image moments texts words end s last)
+      (inl (inl ((job, asked, any_early world job end why), quiet silent)), says)
       (λ fault is. absurd (free.0 fault is)) (λ d moves. free.1 d)
       (subst (λ l. Leaves image l next) none leaves)
-  all left words end s unread unsent still quiet (inr (none, without)) at leaves =
+  all left words end s last says unread unsent still quiet (inr (none, without)) at leaves =
       let free = unasked_free words end unread unsent without in
-      rests next (run_of image moments words end s)
-      (inl (inr (unasked words end unread unsent (IsQuiet s) quiet without)))
+      rests next (run_of image moments texts words end s last)
+      (inl (inr (unasked words end unread unsent (IsQuiet s) quiet without)), says)
       (λ fault is. absurd (free.0 fault is)) free.1
       (subst (λ l. Leaves image l next) none leaves)
 
+-- what was said between two states of the streams
+says_between : {W E : Type 0} (contents : W → Known) (said : E → Known) (o o' : Watched W) (e e' : Watched E)
+    (why : List ℕ) (end : Ending) → Says why end (said_on contents o o') (said_on said e e')
+    → Says why end (said_between (contents o.inner) (contents o'.inner) (is_stopped o'))
+    (said_between (said e.inner) (said e'.inner) (is_stopped e'))
+says_between contents said o o' e e' why end says = by_end end says
+  where
+    no_output : o' ≡ o → Appends (contents o.inner) (contents o'.inner) []
+    no_output same = subst (λ u. Appends (contents o.inner) (contents u.inner) []) (sym same)
+        (appends_nothing (contents o.inner))
+
+    no_errors : e' ≡ e → Appends (said e.inner) (said e'.inner) []
+    no_errors same = subst (λ u. Appends (said e.inner) (said u.inner) []) (sym same)
+        (appends_nothing (said e.inner))
+
+    by_end : (end : Ending) → Says why end (said_on contents o o') (said_on said e e')
+        → Says why end (said_between (contents o.inner) (contents o'.inner) (is_stopped o'))
+        (said_between (said e.inner) (said e'.inner) (is_stopped e'))
+    by_end ending.Done (a, b) = (no_output a, no_errors b)
+    by_end (ending.Noted it) (a, b) = (no_output a, b)
+    by_end ending.Version (a, b) = (a, no_errors b)
+    by_end (ending.Refused n) (a, b) = (a, no_errors b)
+    by_end (ending.Misnamed it) (a, b) = (a, b)
+    by_end (ending.Unfinished about) (a, b) = (a, b)
+    by_end ending.SomeRefused (a, b) = (no_output a, no_errors b)
+    by_end ending.BadWords (a, b) = (no_output a, b)
+    by_end (ending.NotOpened f) (a, b) = (no_output a, b)
+    by_end (ending.Stopped f) (a, b) = (no_output a, b)
+
 pub each_is_run : {D R W E K X P : Type 0} (g : Ghosts D) (remaining : R → Known) (contents : W → Known)
     (said : E → Known) (world_of : K → X → P → World) → EveryRunIsOne g remaining contents said world_of
-each_is_run g remaining contents said world_of time desk paths image next words result moments turns
+each_is_run g remaining contents said world_of time desk paths image next words result moments texts turns
     i i' o told o' e e' so h at leaves =
-    all (world_of time desk paths) image next moments so result.1 words h.ending
-    (with_turns (streams remaining i i' contents o told) turns) (i' ≡ i) (told ≡ o)
+    all (world_of time desk paths) image next moments texts so result.1 words h.ending
+    (with_turns (streams remaining i i' contents o told) turns) (last_of contents o' said e e')
+    (h.why, h.few, says_between contents said told o' e e' h.why h.ending h.says)
+    (i' ≡ i) (told ≡ o)
     (λ same. subst (λ u. Consumes (remaining i.inner) (remaining u.inner) []) (sym same)
     (consumes_nothing (remaining i.inner)))
     (λ same. subst (λ u. Appends (contents o.inner) (contents u.inner) []) (sym same)

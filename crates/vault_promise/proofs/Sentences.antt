@@ -27,12 +27,14 @@ use Rattle.vault_listen.specs.Live.{Turns}
 use Rattle.vault_live.specs.Turns.{Turn}
 use Rattle.vault_live.specs.Turns.Turn.{Lost, Served, Attended}
 use Rattle.vault_jobs.specs.Streams.{Streams}
-use Rattle.vault_jobs.specs.declared.task.Task.{Task}
-use Rattle.vault_jobs.specs.declared.task.Task.TheVariants as task
+use Rattle.vault_jobs.specs.Outside.{Outside}
+use Rattle.vault_promise.specs.Shapes.{Shape, shape_of}
+use Rattle.vault_promise.specs.Shapes.Shape.{Commands, Purges, Rows, Messages, Connections, Words}
 use Rattle.vault_app.specs.Asked.{AsksFor, AsksHelp}
 use Rattle.clap.specs.Words.{IsAmong, Text}
 use Rattle.clap.specs.declared.error.kind.ErrorKind.TheVariants.{DisplayHelp}
 use Rattle.vault_app.specs.Plans.{EndsBefore, saying}
+use Rattle.vault_app.specs.Saying.{IsBeside, OfCheck, OfMove, OfTask, OfTrial, Purpose}
 use Rattle.vault_app.specs.World.{anything}
 use Rattle.vault_app.specs.Ending.{IsDone}
 use Rattle.vault_app.specs.declared.ending.Ending.{Ending}
@@ -43,21 +45,56 @@ use Rattle.vault_promise.proofs.RunHistories.{answers_last, opening_last}
 use Rattle.vault_promise.proofs.SoundHistories.{last-append, parts}
 use Rattle.vault_promise.proofs.Spared.{no_task}
 use Rattle.vault_promise.proofs.Standing.{stand_in}
-use Rattle.vault_promise.proofs.ToldMoments.{all_told}
+use Rattle.vault_promise.proofs.ToldMoments.{is_timely}
 use Rattle.vault_promise.proofs.WentOut.{EachOf, went_out}
-use Rattle.vault_promise.specs.DueNumbers.{EachIsDue, FaultsTellNoNumber, OnlyDueIsGiven}
+use Rattle.vault_promise.proofs.ListedRights.{follows_its}
+use Rattle.vault_promise.specs.ListedRights.{FollowsIts}
+use Rattle.vault_promise.specs.Exact.{RightsBecomeExact}
+use Rattle.vault_promise.specs.DueNumbers.{EachIsDue, FaultsTellNoNumber, OnlyDueIsGiven, TextsTellNumbers}
 use Rattle.vault_promise.specs.Sentences.{CountsAreWithin, RequestsAnswerOnceEver, SentencesHoldTogether}
-use Rattle.vault_promise.specs.Sentences.{AllSpared, AsksTask, MovesKeep, MovesKeepTheVault, StopsAreSpared}
-use Rattle.vault_promise.specs.Sentences.{AnswersAreKept, AreDue, AreDueTurns, AreDueTexts, AreWhole}
-use Rattle.vault_promise.specs.Sentences.{ChangesAreWhole, DidWhole, DoneIsDone, GivesDue, IsKept, Kept}
-use Rattle.vault_promise.specs.Sentences.{LeadsTo, TurnsTell, NeverShared, NoneElse, NonePasses}
+use Rattle.vault_promise.specs.Sentences.{AllSpared, MovesKeep, MovesKeepTheVault, StopsAreSpared}
+use Rattle.vault_promise.specs.Sentences.{AnswersAreKept, AnswersStay, AreDue, AreDueTurns, AreDueTexts}
+use Rattle.vault_promise.specs.Sentences.{AreWhole, ChangesAreWhole, DidWhole, DoneIsDone, GivesDue, IsKept}
+use Rattle.vault_promise.specs.Sentences.{IsTimely, LeadsTo, MomentsAreTold, OfAnyRuns, TellsDue, TurnsTell}
+use Rattle.vault_promise.specs.Sentences.{NeverShared, NonePasses}
 use Rattle.vault_promise.specs.Sentences.{NumbersAreCounted, NumbersGoToNobodyElse, NumbersStayApart, Steps}
-use Rattle.vault_promise.specs.Sentences.{TextsTell, TokensYield, WentOut, given_in, left_by}
-use Rattle.vault_promise.specs.SoundHistories.{HistoriesLast}
-use Rattle.vault_promise.specs.Runs.{AreNew, AreOf, AsksMove, Come, Comes, Follow, IsAside, IsSpared}
-use Rattle.vault_promise.specs.Runs.{MakesNew, Rests, Run, RunsComeToHistories, Work, answers, at_moments}
-use Rattle.vault_promise.specs.Runs.{before, history, kept_by, opening, perhaps, told_by, undecided_by}
+use Rattle.vault_promise.specs.Sentences.{RightsFollowTheirList, TextsTell, TokensYield, WentOut, given_in, left_by}
+use Rattle.vault_promise.proofs.Standing.{answers_at}
+use Rattle.vault_promise.specs.Sentences.{OutYields, TextsYield, TurnsYield, Yields, YieldsAt}
+use Rattle.vault_promise.specs.SoundHistories.{HistoriesLast, LiveTokensYieldIn}
+use Rattle.vault_core.specs.declared.reply.Reply.TheVariants.{Number}
+use Rattle.vault_engine.specs.Asking.{reply_to}
+use Rattle.vault_recover.specs.Histories.{Answered}
+use Rattle.vault_wire.specs.Parts.{closes}
+use Rattle.vault_promise.specs.Runs.{AreNew, AreOf, AsksMove, AsksTask, Come, Comes, Follow, IsAside, IsAsideRun}
+use Rattle.vault_promise.specs.Runs.{Each, GoesOutAside, IsSpared, MakesNew, OfRun, Rests, Run, RunsComeToHistories, Work, answers}
+use Rattle.vault_promise.specs.Runs.{around, before, history, kept_by, opening, outside_of, perhaps}
+use Rattle.vault_promise.specs.Runs.{undecided_by}
 use Rattle.vault_promise.specs.Told.{IsNext, IsQuiet, streams_of}
+
+-- ---- each run
+
+-- what is true of any run with those before it and behind it is true of each
+each_of : (Is : OfRun)
+    → ((V : Content) (c : Option Command) (r : Run) (it : Comes V c r) (rs : List Run) (end : Image)
+    (more : Come (kept_by V c r it) (undecided_by V c r it) rs end)
+    → Follow V c (r ∷ rs) end (it, more) → Is V c r it rs end more)
+    → (V : Content) (c : Option Command) (rs : List Run) (end : Image) (come : Come V c rs end)
+    → Follow V c rs end come → Each Is V c rs end come
+each_of Is of V c [] end come follow = tt
+each_of Is of V c (r ∷ rs) end (it, more) follow = (
+  of V c r it rs end more follow,
+  each_of Is of (kept_by V c r it) (undecided_by V c r it) rs end more follow.2,
+)
+
+-- and of any runs
+each_run : (Is : OfRun)
+    → ((V : Content) (c : Option Command) (r : Run) (it : Comes V c r) (rs : List Run) (end : Image)
+    (more : Come (kept_by V c r it) (undecided_by V c r it) rs end)
+    → Follow V c (r ∷ rs) end (it, more) → Is V c r it rs end more)
+    → RunsComeToHistories → OfAnyRuns (λ V rs end come. Each Is V None rs end come)
+each_run Is of come rs end V sound first runs =
+    ∥∥₁_map (come rs end V sound first runs) (λ it. (it.0, each_of Is of V None rs end it.0 it.3))
 
 -- ---- places on the way
 
@@ -88,13 +125,6 @@ numbers_apart come lasting rs end V sound of runs =
       (never_shared lasting V sound _ it.1, none_passes lasting V sound _ it.1),
     ))
 
-pub tokens_yield : RunsComeToHistories → HistoriesLast → TokensYield
-tokens_yield come lasting rs end V sound of runs =
-    ∥∥₁_map (come rs end V sound of runs) (λ it. (
-      it.0,
-      λ first more same. (lasting V first sound (first_is V _ first more it.1 same)).yields,
-    ))
-
 -- ---- numbers go to nobody else
 
 in_all : (P : Asked Row → Type 0) (first more : List (Asked Row)) (x : Asked Row)
@@ -117,14 +147,15 @@ row_is who row pair w (inr (none, same)) caller m token now is =
     let both = sym same ∙ is in absurd (cc)
 
 -- what goes out of a run that rests
-quiet_rest : (r : Run) → Rests r → IsQuiet r.streams ⊎ (AsksHelp r.words ⊎ AsksFor r.words IsAside)
-quiet_rest r (inl (inl (early_end, quiet))) = inl quiet
-quiet_rest r (inl (inr (inl (inl (help, is), calm)))) = inr (inl help)
-quiet_rest r (inl (inr (inl (inr (version, is, silent), calm)))) = inl silent
-quiet_rest r (inl (inr (inr (inl (none, is, calm, silent))))) = inl silent
-quiet_rest r (inl (inr (inr (inr (is, calm, silent))))) = inl silent
-quiet_rest r (inr (inl (why, quiet))) = inl quiet
-quiet_rest r (inr (inr aside)) = inr (inr aside)
+quiet_rest : (r : Run) → Rests r
+    → IsQuiet r.streams ⊎ (AsksHelp r.words ⊎ IsAsideRun r)
+quiet_rest r (inl (inl (early_end, quiet)), says) = inl quiet
+quiet_rest r (inl (inr (inl (inl (help, is), calm))), says) = inr (inl help)
+quiet_rest r (inl (inr (inl (inr (version, is, silent), calm))), says) = inl silent
+quiet_rest r (inl (inr (inr (inl (none, is, calm, silent)))), says) = inl silent
+quiet_rest r (inl (inr (inr (inr (is, calm, silent)))), says) = inl silent
+quiet_rest r (inr (inl (why, quiet)), says) = inl quiet
+quiet_rest r (inr (inr aside), says) = inr (inr aside)
 
 module _ (due : OnlyDueIsGiven) (texts : EachIsDue) (faults : FaultsTellNoNumber) where
   due_texts : (tells : Turns) (now : Option ℕ) (digits : Option (List ℕ)) (W : Content) (s : Streams)
@@ -143,41 +174,120 @@ module _ (due : OnlyDueIsGiven) (texts : EachIsDue) (faults : FaultsTellNoNumber
   due_turns tells W (Lost ∷ ts) it = due_turns tells W ts it
   due_turns tells W (Served x ∷ ts) (it, all) =
       (due_texts tells None None W (streams_of x) it, due_turns tells (vault_after W it.exchanges) ts all)
-  due_turns tells W (Attended cs news ∷ ts) it = due_turns tells (run cs W) ts it
+  due_turns tells W (Attended cs news ∷ ts) (said, all) = due_turns tells (run cs W) ts all
 
-  are_due : (tells : Turns) (t : Task) (W : Content) (cs : List Command) (s : Streams)
-      (it : WentOut tells t W cs s GivesDue) → AreDue tells t W cs s it
-  are_due tells (task.Change c) W cs s it = tt
-  are_due tells (task.Give rights now) W cs s it = tt
-  are_due tells (task.Settle rights now) W cs s it = tt
-  are_due tells (task.SetMerchants rows now) W cs s it = tt
-  are_due tells (task.Sweep who now giver) W cs s it = tt
-  are_due tells (task.Batch who now digits) W cs s (it, asked) = λ first more row x is wanted number replied.
+  are_due : (at : Outside) (shape : Shape) (W : Content) (cs : List Command) (s : Streams)
+      (it : WentOut at shape W cs s GivesDue) → AreDue at shape W cs s it
+  are_due at (Commands all line) W cs s it = tt
+  are_due at (Purges who now giver) W cs s it = tt
+  are_due at (Rows who now digits) W cs s (it, asked) = λ first more row x is wanted number replied.
       let gives = it.each first more row x is wanted number replied in
       row_is who row.unit row.pair row.wanted
       (in_all (Asks who) first more row (subst (All (Asks who)) is asked))
       gives.caller gives.merchant gives.token gives.now (wanted ∙ ap Ok gives.asks)
-  are_due tells (task.Pipe now digits) W cs s it = due_texts tells now digits W s it
-  are_due tells (task.Serve service) W cs s (inl none) = tt
-  are_due tells (task.Serve service) W cs s (inr (done, it)) = due_turns tells _ s.turns it
-  are_due tells (task.Show it) W cs s shown = tt
+  are_due at (Messages now digits) W cs s it = due_texts at.tells now digits W s it
+  are_due at (Connections service) W cs s (inl none) = tt
+  are_due at (Connections service) W cs s (inr (done, said, it)) = due_turns at.tells _ s.turns it
+  are_due at (Words text) W cs s it = tt
 
-  none_else : (V : Content) (c : Option Command) (rs : List Run) (end : Image) (come : Come V c rs end)
-      → NoneElse V c rs end come
-  none_else V c [] end come = tt
-  none_else V c (r ∷ rs) end (inl w, more) =
+  tells_due : (V : Content) (c : Option Command) (r : Run) (it : Comes V c r) (rs : List Run) (end : Image)
+      (more : Come (kept_by V c r it) (undecided_by V c r it) rs end) → TellsDue V c r it rs end more
+  tells_due V c r (inl w) rs end more =
       let each : EachOf w.opened w.answered GivesDue =
       λ first rest x is number replied. due (run first w.opened) x number replied in
-      let went = went_out (told_by r.moments) w.task w.opened w.answered r.streams GivesDue each w.tells in (
-        each,
-        (went, are_due (told_by r.moments) w.task w.opened w.answered r.streams went),
-        none_else (run w.answered w.opened) w.undecided rs end more,
-      )
-  none_else V c (r ∷ rs) end (inr rests, more) = (quiet_rest r rests.0, none_else V c rs end more)
+      let shape = shape_of w.task w.opened in
+      let went = went_out (outside_of r) shape w.opened w.answered r.streams GivesDue each w.tells in
+      (each, (went, are_due (outside_of r) shape w.opened w.answered r.streams went), w.says)
+  tells_due V c r (inr rests) rs end more = (quiet_rest r rests.0, rests.0.1)
 
   pub nobody_else : RunsComeToHistories → NumbersGoToNobodyElse
-  nobody_else come rs end V sound of runs =
-      ∥∥₁_map (come rs end V sound of runs) (λ it. (it.0, none_else V None rs end it.0))
+  nobody_else = each_run TellsDue (λ V c r it rs end more follow. tells_due V c r it rs end more)
+
+-- ---- moments are told
+
+pub moments_told : RunsComeToHistories → MomentsAreTold
+moments_told = each_run IsTimely (λ V c r it rs end more follow. is_timely V c r it rs end more)
+
+-- ---- tokens yield to those entitled
+
+-- a number that a due token stands for is the one that is answered
+one_due : (o : Option Bytes) (a b : Bytes) → o ≡ Some a → o ≡ Some b → a ≡ b
+one_due o a b x y = cc (x, y)
+
+module _ (law : TextsTellNumbers) where
+  texts_yield : (tells : Turns) (now : Option ℕ) (digits : Option (List ℕ)) (W : Content) (s : Streams)
+      (it : TextsTell tells now digits W s YieldsAt) → TextsYield W it.exchanges
+  texts_yield tells now digits W s it first more x caller m token at number is wanted due below =
+      let U : Content = vault_after W first in
+      let (other, stands, replied) = it.each first more x _ is wanted caller m token at due.entry due.right
+      due.held due.live below in
+      let same = one_due due.entry.number other number stands due.stands in
+      (law U x number (closes x.unit)).1
+      (ap (reply_to U) wanted ∙ replied ∙ ap Number same, refl)
+
+  turns_yield : (tells : Turns) (W : Content) (ts : List Turn) (it : TurnsTell tells W ts YieldsAt)
+      → TurnsYield tells W ts it
+  turns_yield tells W [] it = tt
+  turns_yield tells W (Lost ∷ ts) it = turns_yield tells W ts it
+  turns_yield tells W (Served x ∷ ts) (it, all) =
+      (texts_yield tells None None W (streams_of x) it, turns_yield tells (vault_after W it.exchanges) ts all)
+  turns_yield tells W (Attended cs news ∷ ts) (said, all) = turns_yield tells (run cs W) ts all
+
+  out_yields : (at : Outside) (shape : Shape) (W : Content) (cs : List Command) (s : Streams)
+      (it : WentOut at shape W cs s YieldsAt) → OutYields at shape W cs s it
+  out_yields at (Commands all line) W cs s it = tt
+  out_yields at (Purges who now giver) W cs s it = tt
+  out_yields at (Rows who now digits) W cs s it = tt
+  out_yields at (Messages now digits) W cs s it = texts_yield at.tells now digits W s it
+  out_yields at (Connections service) W cs s (inl none) = tt
+  out_yields at (Connections service) W cs s (inr (done, said, it)) = turns_yield at.tells _ s.turns it
+  out_yields at (Words text) W cs s it = tt
+
+  -- at each place of a history live tokens yield
+  abbrev YieldOn : Content → Steps → Type 0
+  YieldOn V h = (first more : Steps) → h ≡ first ++ more → LiveTokensYieldIn (last V first)
+
+  yields : (V : Content) (c : Option Command) (rs : List Run) (end : Image) (come : Come V c rs end)
+      → YieldOn V (history V c rs end come) → Each Yields V c rs end come
+  yields V c [] end come on = tt
+  yields V c (r ∷ rs) end (inl w, more) on =
+      let W : Content = w.opened in
+      let rest : Steps = history (run w.answered W) w.undecided rs end more in
+      let each : EachOf W w.answered YieldsAt =
+      λ front behind x is.
+      let own : Steps = (Answered x (reply (run front W) x), after (run front W) x)
+      ∷ answers (after (run front W) x) behind in
+      subst LiveTokensYieldIn
+      (last-append V (opening c W) (answers W front) ∙ ap (λ X. last X (answers W front)) (opening_last V W c)
+      ∙ answers_last W front)
+      (on (opening c W ++ answers W front) (own ++ rest)
+      (ap (λ h. opening c W ++ (h ++ rest)) (ap (answers W) is ∙ answers_at W front behind x)
+      ∙ ap (λ h. opening c W ++ h) (append_assoc (answers W front) own rest)
+      ∙ sym (append_assoc (opening c W) (answers W front) (own ++ rest)))) in
+      let went = went_out (outside_of r) (shape_of w.task W) W w.answered r.streams YieldsAt each w.tells in (
+        (went, out_yields (outside_of r) (shape_of w.task W) W w.answered r.streams went),
+        yields (run w.answered W) w.undecided rs end more (λ first behind is.
+            subst LiveTokensYieldIn
+            (last-append V (opening c W) (answers W w.answered ++ first)
+            ∙ ap (λ X. last X (answers W w.answered ++ first)) (opening_last V W c)
+            ∙ last-append W (answers W w.answered) first ∙ ap (λ X. last X first) (answers_last W w.answered))
+            (on (opening c W ++ (answers W w.answered ++ first)) behind
+            (ap (λ h. opening c W ++ (answers W w.answered ++ h)) is
+            ∙ ap (λ h. opening c W ++ h) (sym (append_assoc (answers W w.answered) first behind))
+            ∙ sym (append_assoc (opening c W) (answers W w.answered ++ first) behind)))),
+      )
+  yields V c (r ∷ rs) end (inr rests, more) on = (tt, yields V c rs end more on)
+
+yield_on : HistoriesLast → (V : Content) → Sound V → (h : Steps) → IsHistory V h → (first more : Steps)
+    → h ≡ first ++ more → LiveTokensYieldIn (last V first)
+yield_on lasting V sound h is first more same = (lasting V first sound (first_is V h first more is same)).yields
+
+pub tokens_yield : RunsComeToHistories → HistoriesLast → TextsTellNumbers → TokensYield
+tokens_yield come lasting law rs end V sound of runs =
+    ∥∥₁_map (come rs end V sound of runs) (λ it. (
+      it.0,
+      (yield_on lasting V sound _ it.1, yields law V None rs end it.0 (yield_on lasting V sound _ it.1)),
+    ))
 
 -- ---- each is counted
 
@@ -286,39 +396,39 @@ leads_opened U V W c leads proper (inl is) = subst (LeadsTo U) (sym is) leads
 leads_opened U V W c leads proper (inr is) = subst (LeadsTo U) (sym is) (leads_perhaps U V c leads proper)
 
 is_kept : (U V : Content) (c : Option Command) (rs : List Run) (end : Image) (come : Come V c rs end)
-    → LeadsTo U V → IfSome c IsProper → IsKept U V c rs end come
-is_kept U V c [] end come leads proper = (leads, come)
-is_kept U V c (r ∷ rs) end (inl w, more) leads proper =
+    → Follow V c rs end come → LeadsTo U V → IfSome c IsProper → IsKept U V c rs end come
+is_kept U V c [] end come follow leads proper = (leads, come)
+is_kept U V c (r ∷ rs) end (inl w, more) (of, on, follow) leads proper =
     let opened = leads_opened U V w.opened c leads proper w.is in (
+      of,
       opened,
       w.holds,
-      is_kept U (run w.answered w.opened) w.undecided rs end more
+      is_kept U (run w.answered w.opened) w.undecided rs end more follow
           (leads_on U w.opened w.answered opened w.proper) w.last_proper,
     )
-is_kept U V c (r ∷ rs) end (inr rests, more) leads proper = is_kept U V c rs end more leads proper
+is_kept U V c (r ∷ rs) end (inr rests, more) (of, on, follow) leads proper =
+    (of, is_kept U V c rs end more follow leads proper)
 
-kept_all : (V : Content) (c : Option Command) (rs : List Run) (end : Image) (come : Come V c rs end)
-    → Kept V c rs end come
-kept_all V c [] end come = tt
-kept_all V c (r ∷ rs) end (inl w, more) =
+answers_stay : (V : Content) (c : Option Command) (r : Run) (it : Comes V c r) (rs : List Run) (end : Image)
+    (more : Come (kept_by V c r it) (undecided_by V c r it) rs end)
+    → Follow V c (r ∷ rs) end (it, more) → AnswersStay V c r it rs end more
+answers_stay V c r (inl w) rs end more (of, on, follow) =
     let W : Content = w.opened in
     let U : Content = run w.answered W in
     let each : EachOf W w.answered (λ X x. IsKept (after X x) U w.undecided rs end more) =
-    λ first rest x same. is_kept (after (run first W) x) U w.undecided rs end more (
+    λ first rest x same. is_kept (after (run first W) x) U w.undecided rs end more follow (
       rest,
       proper_behind first rest x (subst AllProper same w.proper),
       ap (λ cs. run cs W) same ∙ run_append first (x ∷ rest) W,
     ) w.last_proper in (
       each,
-      went_out (told_by r.moments) w.task W w.answered r.streams
+      went_out (outside_of r) (shape_of w.task W) W w.answered r.streams
           (λ X x. IsKept (after X x) U w.undecided rs end more) each w.tells,
-      kept_all U w.undecided rs end more,
     )
-kept_all V c (r ∷ rs) end (inr rests, more) = kept_all V c rs end more
+answers_stay V c r (inr rests) rs end more follow = tt
 
 pub answers_kept : RunsComeToHistories → AnswersAreKept
-answers_kept come rs end V sound of runs =
-    ∥∥₁_map (come rs end V sound of runs) (λ it. (it.0, kept_all V None rs end it.0))
+answers_kept = each_run AnswersStay answers_stay
 
 -- ---- what is done is done whole
 
@@ -327,33 +437,33 @@ early ending.Done is r (job, asked, why) = why
 early (ending.Noted it) is r (job, asked, why) = why
 early e is r asks = is
 
+is_beside : (it : Purpose) (r : Run) → GoesOutAside it r → IsBeside it
+is_beside (OfTrial Is) r out = tt
+is_beside (OfCheck path) r out = tt
+is_beside (OfMove path) r out = tt
+is_beside (OfTask path Is) r out = absurd out
+
 rested : (r : Run) → Rests r → IsDone r.ending → AsksHelp r.words ⊎ AsksFor r.words IsAside
-rested r (inl (inl (early_end, quiet))) done = absurd (early r.ending done r early_end)
-rested r (inl (inr (inl (inl (help, is), calm)))) done = inl help
-rested r (inl (inr (inl (inr (version, is, silent), calm)))) done = absurd (subst IsDone is done)
-rested r (inl (inr (inr (inl (none, is, calm, silent))))) done = absurd (subst IsDone is done)
-rested r (inl (inr (inr (inr (is, calm, silent))))) done = absurd (subst IsDone is done)
-rested r (inr (inl ((why, is), quiet))) done = absurd (subst IsDone is done)
-rested r (inr (inr aside)) done = inr aside
+rested r (inl (inl (early_end, quiet)), says) done = absurd (early r.ending done r early_end)
+rested r (inl (inr (inl (inl (help, is), calm))), says) done = inl help
+rested r (inl (inr (inl (inr (version, is, silent), calm))), says) done = absurd (subst IsDone is done)
+rested r (inl (inr (inr (inl (none, is, calm, silent)))), says) done = absurd (subst IsDone is done)
+rested r (inl (inr (inr (inr (is, calm, silent)))), says) done = absurd (subst IsDone is done)
+rested r (inr (inl ((why, is), quiet)), says) done = absurd (subst IsDone is done)
+rested r (inr (inr (job, asked, out)), says) done = inr (job, asked, is_beside (saying job).purpose r out)
 
 none_asked : (words : List Text) → AsksTask words → AsksHelp words ⊎ AsksFor words IsAside → ⊥
 none_asked words asks (inl help) = subst (IsAmong DisplayHelp) asks.1.taken help
 none_asked words (a, x, (t, is)) (inr (b, y, aside)) = only_task anything words a b t x y is aside
 
-did_whole : (V : Content) (c : Option Command) (rs : List Run) (end : Image) (come : Come V c rs end)
-    → DidWhole V c rs end come
-did_whole V c [] end come = tt
-did_whole V c (r ∷ rs) end (inl w, more) =
-    (w.done, did_whole (run w.answered w.opened) w.undecided rs end more)
-did_whole V c (r ∷ rs) end (inr rests, more) = (
-  rested r rests.0,
-  λ done asks. none_asked r.words asks (rested r rests.0 done),
-  did_whole V c rs end more,
-)
+did_whole : (V : Content) (c : Option Command) (r : Run) (it : Comes V c r) (rs : List Run) (end : Image)
+    (more : Come (kept_by V c r it) (undecided_by V c r it) rs end) → DidWhole V c r it rs end more
+did_whole V c r (inl w) rs end more = w.done
+did_whole V c r (inr rests) rs end more = λ done.
+    let how = rested r rests.0 done in (how, λ asks. none_asked r.words asks how)
 
 pub done_is_done : RunsComeToHistories → DoneIsDone
-done_is_done come rs end V sound of runs =
-    ∥∥₁_map (come rs end V sound of runs) (λ it. (it.0, did_whole V None rs end it.0))
+done_is_done = each_run DidWhole (λ V c r it rs end more follow. did_whole V c r it rs end more)
 
 -- ---- changes are whole
 
@@ -365,19 +475,22 @@ whole_or_not WasAsked V W None asked (inr is) = inl is
 whole_or_not WasAsked V W (Some x) asked (inr is) = inr (x, refl, asked, is)
 
 are_whole : (WasAsked : Command → Type 0) (V : Content) (c : Option Command) (rs : List Run) (end : Image)
-    (come : Come V c rs end) → IfSome c WasAsked → AreWhole WasAsked V c rs end come
-are_whole WasAsked V c [] end come asked = tt
-are_whole WasAsked V c (r ∷ rs) end (inl w, more) asked = (
+    (come : Come V c rs end) → Follow V c rs end come → IfSome c WasAsked → AreWhole WasAsked V c rs end come
+are_whole WasAsked V c [] end come follow asked = (asked, come)
+are_whole WasAsked V c (r ∷ rs) end (inl w, more) (of, on, follow) asked = (
+  of,
   whole_or_not WasAsked V w.opened c asked w.is,
   w.holds,
-  are_whole (IsNext (told_by r.moments) w.task w.opened w.answered r.streams) (run w.answered w.opened)
-      w.undecided rs end more w.next,
+  are_whole (IsNext (outside_of r) (shape_of w.task w.opened) w.opened w.answered r.streams)
+      (run w.answered w.opened)
+      w.undecided rs end more follow w.next,
 )
-are_whole WasAsked V c (r ∷ rs) end (inr rests, more) asked = are_whole WasAsked V c rs end more asked
+are_whole WasAsked V c (r ∷ rs) end (inr rests, more) (of, on, follow) asked =
+    (of, are_whole WasAsked V c rs end more follow asked)
 
 pub changes_whole : RunsComeToHistories → ChangesAreWhole
 changes_whole come rs end V sound of runs =
-    ∥∥₁_map (come rs end V sound of runs) (λ it. (it.0, are_whole (λ x. ⊥) V None rs end it.0 tt))
+    ∥∥₁_map (come rs end V sound of runs) (λ it. (it.0, are_whole (λ x. ⊥) V None rs end it.0 it.3 tt))
 
 -- ---- stops are spared
 
@@ -416,43 +529,48 @@ stops_spared come rs end V sound of runs =
 
 -- ---- moves keep the vault
 
-moves_keep : (V : Content) (c : Option Command) (rs : List Run) (end : Image) (come : Come V c rs end)
-    → Follow V c rs end come → MovesKeep V c rs end come
-moves_keep V c [] end come follow = tt
-moves_keep V c (r ∷ rs) end (inl w, more) (of, leads, follow) = (
-  λ asks. no_task (at_moments r.moments) (saying w.asked.0).purpose w.task w.asked.2
-      (only_move r.words asks.0 w.asked.0 asks.1 w.asked.1 asks.2),
-  moves_keep (run w.answered w.opened) w.undecided rs end more follow,
-)
-moves_keep V c (r ∷ rs) end (inr rests, more) (of, leads, follow) = (
-  leads.of,
-  λ moved. leads.newest (inl moved),
-  moves_keep V c rs end more follow,
-)
+moves_keep : (V : Content) (c : Option Command) (r : Run) (it : Comes V c r) (rs : List Run) (end : Image)
+    (more : Come (kept_by V c r it) (undecided_by V c r it) rs end)
+    → Follow V c (r ∷ rs) end (it, more) → MovesKeep V c r it rs end more
+moves_keep V c r (inl w) rs end more follow = λ asks.
+    no_task (around r) (saying w.asked.0).purpose w.task w.asked.2
+    (only_move r.words asks.0 w.asked.0 asks.1 w.asked.1 asks.2)
+moves_keep V c r (inr rests) rs end more (of, leads, follow) = (leads.of, λ moved. leads.newest (inl moved))
 
 pub moves_keep_vault : RunsComeToHistories → MovesKeepTheVault
-moves_keep_vault come rs end V sound of runs =
-    ∥∥₁_map (come rs end V sound of runs) (λ it. (it.0, moves_keep V None rs end it.0 it.3))
+moves_keep_vault = each_run MovesKeep moves_keep
+
+-- ---- rights follow their list
+
+pub rights_follow : RightsBecomeExact → RunsComeToHistories → RightsFollowTheirList
+rights_follow law = each_run FollowsIts (λ V c r it rs end more follow. follows_its law V c r it rs end more)
 
 -- ---- all of them together
 
-pub together : RunsComeToHistories → HistoriesLast → OnlyDueIsGiven → EachIsDue → FaultsTellNoNumber
-    → SentencesHoldTogether
-together come lasting due texts faults rs end V sound of runs =
+pub together : RunsComeToHistories → HistoriesLast → RightsBecomeExact → OnlyDueIsGiven → EachIsDue
+    → FaultsTellNoNumber → TextsTellNumbers → SentencesHoldTogether
+together come lasting law due texts faults told rs end V sound of runs =
     ∥∥₁_map (come rs end V sound of runs) (λ it. (
       it.0,
       record {
         apart = never_shared lasting V sound _ it.1;
         checked = none_passes lasting V sound _ it.1;
-        yields = λ first more same. (lasting V first sound (first_is V _ first more it.1 same)).yields;
-        nobody_else = none_else due texts faults V None rs end it.0;
-        told = all_told V None rs end it.0;
+        yields = yield_on lasting V sound _ it.1;
+        yielded = yields told V None rs end it.0 (yield_on lasting V sound _ it.1);
+        nobody_else = each_of TellsDue
+            (λ W c r on rs end more follow. tells_due due texts faults W c r on rs end more) V None rs end
+            it.0 it.3;
+        told = each_of IsTimely (λ W c r on rs end more follow. is_timely W c r on rs end more) V None rs end
+            it.0 it.3;
         counted = counted lasting V rs end it.0 sound it.1;
         stand = stand_in lasting V None rs end it.0 sound it.1;
-        kept = kept_all V None rs end it.0;
-        whole = are_whole (λ x. ⊥) V None rs end it.0 tt;
+        kept = each_of AnswersStay answers_stay V None rs end it.0 it.3;
+        whole = are_whole (λ x. ⊥) V None rs end it.0 it.3 tt;
         spared = all_spared (AreNew (before rs end) V None) V None rs end it.0 (λ new. new) it.3;
-        moves = moves_keep V None rs end it.0 it.3;
-        done = did_whole V None rs end it.0;
+        moves = each_of MovesKeep moves_keep V None rs end it.0 it.3;
+        done = each_of DidWhole (λ W c r on rs end more follow. did_whole W c r on rs end more) V None rs end
+            it.0 it.3;
+        rights = each_of FollowsIts (λ W c r on rs end more follow. follows_its law W c r on rs end more) V None
+            rs end it.0 it.3;
       },
     ))

@@ -1,7 +1,7 @@
 -- What a service answered in its turns, and what it left undecided, as commands.
 use Rattle.std.proofs.Common.{◌≡◌, ◌≤◌, ℕ, List, [], ◌∷◌, ◌++◌, None, Option, Some, Result, Ok, Err, inl, inr}
 use Rattle.std.proofs.Common.{refl, sym, ap, subst, append-nil, append_assoc, arith, length, ◌∙◌}
-use Rattle.std.specs.Prelude.{IfSome, MatchResult}
+use Rattle.std.specs.Prelude.{IfOk, IfSome, MatchResult}
 use Rattle.vault_core.specs.Proper.{AllProper, IsProper}
 use Rattle.vault_core.specs.Runs.{run}
 use Rattle.vault_core.specs.Vault.{Vault as Content}
@@ -12,18 +12,20 @@ use Rattle.vault_engine.specs.Passing.{IsBefore, Passage}
 use Rattle.vault_http.specs.Served.{IsServed, IsStopped}
 use Rattle.vault_engine.specs.declared.stop.Stop.{Stop as ServeFault}
 use Rattle.vault_http.specs.declared.served.Served.{Served as Ended}
-use Rattle.vault_listen.specs.Live.{Turns}
+use Rattle.vault_listen.specs.Live.{AreGiven, Turns}
+use Rattle.vault_engine.specs.Asking.{Pair}
+use Rattle.vault_live.specs.News.{line_of}
 use Rattle.vault_listen.specs.Peers.{Link}
 use Rattle.vault_listen.specs.Service.{Leads, link_from}
 use Rattle.vault_merchants.specs.ListedMerchants.{AreListed, Wanted}
 use Rattle.vault_live.specs.Following.{AreRowsIn}
 use Rattle.vault_live.specs.Kinds.{Naming, Wanting, merchants_changes, rights_changes}
-use Rattle.vault_live.specs.Turns.{AllKept, AllTurn, AreAsked, Asking, OneUndecided, Turn}
+use Rattle.vault_live.specs.Turns.{AllKept, AllTurn, AreAsked, Asking, OneUndecided, Turn, came}
 use Rattle.vault_live.specs.Turns.Turn.{Lost, Served, Attended}
 use Rattle.vault_live.specs.declared.news.News.{News}
 use Rattle.vault_listen.specs.declared.fault.ListenFault.TheVariants as listener
 use Rattle.vault_changes.specs.Settling.{IsUntouched}
-use Rattle.vault_jobs.specs.Doing.{ServeEnds, serving_of}
+use Rattle.vault_jobs.specs.Doing.{IsListening, ServeEnds, serving_of}
 use Rattle.vault_jobs.specs.Lists.{asked_by, asked_of, swept_by}
 use Rattle.vault_jobs.specs.Outside.{Outside}
 use Rattle.vault_jobs.specs.Streams.{Streams, output_with}
@@ -33,27 +35,40 @@ use Rattle.vault_jobs.specs.declared.task.Outcome.{Outcome}
 use Rattle.vault_jobs.specs.declared.task.Outcome.TheVariants as outcome
 use Rattle.vault_jobs.specs.declared.lists.ListFile.{ListFile}
 use Rattle.vault_jobs.specs.declared.lists.Lists.{Lists}
-use Rattle.vault_promise.proofs.Answering.{Answers, served_answer, stopped_answer}
+use Rattle.vault_promise.proofs.Answering.{Answers, served_answer, served_whole, stopped_answer}
 use Rattle.vault_promise.proofs.PipedMessages.{as_run, command_in, commands_then, next_asked, run_append}
 use Rattle.vault_promise.proofs.PipedMessages.{run_then, wanted_proper}
 use Rattle.vault_promise.proofs.Proper.{proper-append, proper-first, proper-last}
-use Rattle.vault_promise.proofs.MoreTold.{looked_more}
 use Rattle.vault_promise.specs.Runs.{perhaps}
-use Rattle.vault_promise.specs.Told.{AllAnswer, AreAnswered, IsAskedNext, IsLastNext, seen, streams_of}
+use Rattle.vault_promise.specs.Told.{AllAnswer, AreAllAnswered, IsAnswered, IsAskedNext, IsLastNext, IsSaid}
+use Rattle.vault_promise.specs.Told.{IsQuiet, SaysTurns, streams_of}
 
--- what a connection answered
+-- what a connection answered, by how the service of it ended
+answers_by : (tells : Turns) (V W U : Content) (x : Link) (pairs : List Pair) → AreGiven tells None None pairs
+    → (r : Result Ended ServeFault)
+    → MatchResult r (IsServed x.came x.left (link_from V W U pairs x))
+    (IsStopped x.came x.left (link_from V W U pairs x))
+    → Answers tells None None (link_from V W U pairs x) (streams_of x)
+answers_by tells V W U x pairs own (Ok n) q =
+    served_answer tells None None (link_from V W U pairs x) (streams_of x) pairs own n q
+answers_by tells V W U x pairs own (Err e) q =
+    stopped_answer tells None None (link_from V W U pairs x) (streams_of x) pairs own e q
+
+-- all of it, where it was served to its end
+all_by : (tells : Turns) (V W U : Content) (x : Link) (pairs : List Pair) (own : AreGiven tells None None pairs)
+    (r : Result Ended ServeFault)
+    (q : MatchResult r (IsServed x.came x.left (link_from V W U pairs x))
+    (IsStopped x.came x.left (link_from V W U pairs x)))
+    → IfOk r (λ n. AreAllAnswered tells None None V
+    (commands_of (answers_by tells V W U x pairs own r q).exchanges) (streams_of x))
+unfolding answers_by
+all_by tells V W U x pairs own (Ok n) q =
+    served_whole tells None None (link_from V W U pairs x) (streams_of x) pairs own n q V (tt, refl)
+all_by tells V W U x pairs own (Err e) q = tt
+
 answers_in : (tells : Turns) (V W U : Content) (x : Link) → (it : Leads tells V W U x)
     → Answers tells None None (link_from V W U it.pairs x) (streams_of x)
-answers_in tells V W U x it = by_end x.ended it.answered
-  where
-    by_end : (r : Result Ended ServeFault)
-        → MatchResult r (IsServed x.came x.left (link_from V W U it.pairs x))
-        (IsStopped x.came x.left (link_from V W U it.pairs x))
-        → Answers tells None None (link_from V W U it.pairs x) (streams_of x)
-    by_end (Ok n) q =
-        served_answer tells None None (link_from V W U it.pairs x) (streams_of x) it.pairs it.own n q
-    by_end (Err e) q =
-        stopped_answer tells None None (link_from V W U it.pairs x) (streams_of x) it.pairs it.own e q
+answers_in tells V W U x it = answers_by tells V W U x it.pairs it.own x.ended it.answered
 
 -- the commands that a connection answered
 record LinkAnswers (tells : Turns) (V W U : Content) (x : Link) : Type 0 where
@@ -61,7 +76,7 @@ record LinkAnswers (tells : Turns) (V W U : Content) (x : Link) : Type 0 where
   undecided : Option Command
   proper : AllProper answered
   last_proper : IfSome undecided IsProper
-  told : AreAnswered tells None None V answered (streams_of x)
+  told : IsAnswered tells V answered x
   next : IfSome undecided (IsAskedNext tells None None (streams_of x) answered)
   leads : run answered V ≡ W
   other : perhaps W undecided ≡ U
@@ -70,7 +85,10 @@ link_answers : (tells : Turns) (V W U : Content) (x : Link) → Leads tells V W 
 link_answers tells V W U x it = by_more a.undecided a.same a.few a.proper (a.left V b)
   where
     a : Answers tells None None (link_from V W U it.pairs x) (streams_of x)
-    a = answers_in tells V W U x it
+    a = answers_by tells V W U x it.pairs it.own x.ended it.answered
+
+    all : IfOk x.ended (λ n. AreAllAnswered tells None None V (commands_of a.exchanges) (streams_of x))
+    all = all_by tells V W U x it.pairs it.own x.ended it.answered
 
     b : IsBefore (link_from V W U it.pairs x) V
     b = (tt, refl)
@@ -84,7 +102,7 @@ link_answers tells V W U x it = by_more a.undecided a.same a.few a.proper (a.lef
       undecided = None;
       proper = subst (λ ys. AllProper (commands_of ys)) (append-nil a.exchanges) proper;
       last_proper = tt;
-      told = (a.exchanges, refl, a.heard, a.went V b);
+      told = ((a.exchanges, refl, a.heard, a.went V b), all);
       next = tt;
       leads = sym (as_run V a.exchanges) ∙ left.0;
       other = sym left.0 ∙ ap (vault_after V) (sym (append-nil a.exchanges)) ∙ left.1;
@@ -98,7 +116,7 @@ link_answers tells V W U x it = by_more a.undecided a.same a.few a.proper (a.lef
           proper = proper-first (commands_of a.exchanges) (commands_in y.wanted) both;
           last_proper = wanted_proper y.wanted
               (proper-last (commands_of a.exchanges) (commands_in y.wanted) both);
-          told = (a.exchanges, refl, a.heard, a.went V b);
+          told = ((a.exchanges, refl, a.heard, a.went V b), all);
           next = next_asked tells None None (streams_of x) a.exchanges y a.heard same y.wanted refl;
           leads = sym (as_run V a.exchanges) ∙ left.0;
           other = ap (λ X. perhaps X (command_in y.wanted)) (sym left.0 ∙ as_run V a.exchanges)
@@ -130,14 +148,14 @@ record AllAnswers (tells : Turns) (asks : Asking) (V W : Content) (ts : List Tur
 
 -- turns, and then a connection
 answer_then : (tells : Turns) (asks : Asking) (ts : List Turn) (x : Link) (V : Content) (cs ds : List Command)
-    → AllAnswer tells asks V ts cs → AreAnswered tells None None (run cs V) ds (streams_of x)
+    → AllAnswer tells asks V ts cs → IsAnswered tells (run cs V) ds x
     → AllAnswer tells asks V (ts ++ Served x ∷ []) (cs ++ ds)
 answer_then tells asks [] x V cs ds none one =
     subst (λ es. AllAnswer tells asks V (Served x ∷ []) (es ++ ds)) (sym none) (
       ds,
       [],
       sym (append-nil ds),
-      subst (λ es. AreAnswered tells None None (run es V) ds (streams_of x)) none one,
+      subst (λ es. IsAnswered tells (run es V) ds x) none one,
       refl,
     )
 answer_then tells asks (Lost ∷ ts) x V cs ds told one = answer_then tells asks ts x V cs ds told one
@@ -147,7 +165,7 @@ answer_then tells asks (Served y ∷ ts) x V cs ds (first, more, is, here, rest)
   ap (λ es. es ++ ds) is ∙ append_assoc first more ds,
   here,
   answer_then tells asks ts x (run first V) more ds rest
-      (subst (λ X. AreAnswered tells None None X ds (streams_of x))
+      (subst (λ X. IsAnswered tells X ds x)
       (ap (λ es. run es V) is ∙ run_append first more V) one),
 )
 answer_then tells asks (Attended first news ∷ ts) x V cs ds (asked, (more, is, rest)) one = (
@@ -156,7 +174,7 @@ answer_then tells asks (Attended first news ∷ ts) x V cs ds (asked, (more, is,
     more ++ ds,
     ap (λ es. es ++ ds) is ∙ append_assoc first more ds,
     answer_then tells asks ts x (run first V) more ds rest
-        (subst (λ X. AreAnswered tells None None X ds (streams_of x))
+        (subst (λ X. IsAnswered tells X ds x)
         (ap (λ es. run es V) is ∙ run_append first more V) one),
   ),
 )
@@ -164,11 +182,14 @@ answer_then tells asks (Attended first news ∷ ts) x V cs ds (asked, (more, is,
 -- turns, and then what was asked for behind them
 attend_then : (tells : Turns) (asks : Asking) (ts : List Turn) (own : List Command) (news : News)
     (V : Content)
-    (cs : List Command) → AllAnswer tells asks V ts cs → AreAsked asks (run cs V) own
+    (cs : List Command) → AllAnswer tells asks V ts cs
+    → AreAsked asks (run cs V) own × IsSaid news (run cs V) own
     → AllAnswer tells asks V (ts ++ Attended own news ∷ []) (cs ++ own)
 attend_then tells asks [] own news V cs none asked =
-    subst (λ es. AllAnswer tells asks V (Attended own news ∷ []) (es ++ own)) (sym none)
-    (subst (λ es. AreAsked asks (run es V) own) none asked, ([], sym (append-nil own), refl))
+    subst (λ es. AllAnswer tells asks V (Attended own news ∷ []) (es ++ own)) (sym none) (
+      subst (λ es. AreAsked asks (run es V) own × IsSaid news (run es V) own) none asked,
+      ([], sym (append-nil own), refl),
+    )
 attend_then tells asks (Lost ∷ ts) own news V cs told asked = attend_then tells asks ts own news V cs told
     asked
 attend_then tells asks (Served y ∷ ts) own news V cs (first, more, is, here, rest) asked = (
@@ -177,7 +198,8 @@ attend_then tells asks (Served y ∷ ts) own news V cs (first, more, is, here, r
   ap (λ es. es ++ own) is ∙ append_assoc first more own,
   here,
   attend_then tells asks ts own news (run first V) more rest
-      (subst (λ X. AreAsked asks X own) (ap (λ es. run es V) is ∙ run_append first more V) asked),
+      (subst (λ X. AreAsked asks X own × IsSaid news X own)
+      (ap (λ es. run es V) is ∙ run_append first more V) asked),
 )
 attend_then tells asks (Attended first said ∷ ts) own news V cs (before, (more, is, rest)) asked = (
   before,
@@ -185,7 +207,8 @@ attend_then tells asks (Attended first said ∷ ts) own news V cs (before, (more
     more ++ own,
     ap (λ es. es ++ own) is ∙ append_assoc first more own,
     attend_then tells asks ts own news (run first V) more rest
-        (subst (λ X. AreAsked asks X own) (ap (λ es. run es V) is ∙ run_append first more V) asked),
+        (subst (λ X. AreAsked asks X own × IsSaid news X own)
+        (ap (λ es. run es V) is ∙ run_append first more V) asked),
   ),
 )
 
@@ -226,12 +249,12 @@ module _ (tells : Turns) (asks other : Asking) (fine : AsksProper asks)
         );
         leads = run_append first.answered rest.answered V ∙ ap (run rest.answered) first.leads ∙ rest.leads;
       }
-  all_answers (Attended cs news ∷ ts) V W (asked, said, turns) =
+  all_answers (Attended cs news ∷ ts) V W (asked, said, values, turns) =
       let rest = all_answers ts (run cs V) W turns in
       record {
         answered = cs ++ rest.answered;
         proper = proper-append cs rest.answered (asked_proper asks fine V cs asked) rest.proper;
-        told = (asked_up asks other up V cs asked, (rest.answered, refl, rest.told));
+        told = ((asked_up asks other up V cs asked, inl (said, values)), (rest.answered, refl, rest.told));
         leads = run_append cs rest.answered V ∙ rest.leads;
       }
 
@@ -278,8 +301,8 @@ module _ (tells : Turns) (asks other : Asking) (fine : AsksProper asks)
     one_served first x are M W U turns leads torn =
         let before = all_answers first V M turns in
         let last = link_answers tells M W U x leads in
-        let told : AreAnswered tells None None (run before.answered V) last.answered (streams_of x) =
-        subst (λ X. AreAnswered tells None None X last.answered (streams_of x)) (sym before.leads)
+        let told : IsAnswered tells (run before.answered V) last.answered x =
+        subst (λ X. IsAnswered tells X last.answered x) (sym before.leads)
         last.told in
         let all : run (before.answered ++ last.answered) V ≡ W =
         run_append before.answered last.answered V ∙ ap (run last.answered) before.leads ∙ last.leads in
@@ -299,9 +322,10 @@ module _ (tells : Turns) (asks other : Asking) (fine : AsksProper asks)
     -- the store failed at what was asked for behind them
     one_attended : (first : List Turn) (own : List Command) (news : News) → ts ≡ first ++ Attended own news
         ∷ []
+        → line_of news ≡ []
         → (next : List Command) → length next ≤ 1 → (M : Content) → AllTurn tells asks V first M
         → AreAsked asks M (own ++ next) → w.left_new (run own M) (run (own ++ next) M) → TurnsWork
-    one_attended first own news are next few M turns asked torn =
+    one_attended first own news are calm next few M turns asked torn =
         let before = all_answers first V M turns in
         let both : AllProper (own ++ next) = asked_proper asks fine M (own ++ next) asked in
         let asked_then : AreAsked other (run before.answered V) (own ++ next) =
@@ -313,7 +337,7 @@ module _ (tells : Turns) (asks other : Asking) (fine : AsksProper asks)
         let told : AllAnswer tells other V ts (before.answered ++ own) =
         subst (λ us. AllAnswer tells other V us (before.answered ++ own)) (sym are)
         (attend_then tells other first own news V before.answered before.told
-        (first_asked other (run before.answered V) own next asked_then)) in
+        (first_asked other (run before.answered V) own next asked_then, inr calm)) in
         by_next next few both asked_then leads told torn
       where
         by_next : (next : List Command) → length next ≤ 1 → AllProper (own ++ next)
@@ -354,7 +378,7 @@ module _ (tells : Turns) (asks other : Asking) (fine : AsksProper asks)
     one_undecided first (Served x) are (failed, torn) =
         let it = torn V b in one_served first x are it.0 it.1 it.2 it.3 it.4 it.5
     one_undecided first (Attended own news) are (calm, (next, few, torn)) =
-        let it = torn V b in one_attended first own news are next few it.0 it.1 it.2 it.3
+        let it = torn V b in one_attended first own news are calm next few it.0 it.1 it.2 it.3
 
     pub serve_works : (port connections : ℕ) (r : Result Outcome Stop) (unsent : Type 0) (s : Streams)
         → ServeEnds (serving_of tells asks port connections) w r
@@ -378,6 +402,36 @@ module _ (tells : Turns) (asks other : Asking) (fine : AsksProper asks)
     serve_works port connections (Err (stop.Rights f)) unsent s h = absurd h
     serve_works port connections (Err (stop.Batch f)) unsent s h = absurd h
 
+-- a service that is done took as many connections as it was to, and said where it listens
+pub all_came : (tells : Turns) (asks : Asking) (port connections : ℕ) (w : Passage) (ts : List Turn)
+    (r : Result Outcome Stop) (unsent : Type 0) (s : Streams)
+    → ServeEnds (serving_of tells asks port connections) w r
+    (output_with unsent s.sent_old s.sent_new s.writer) ts → r ≡ Ok outcome.Done
+    → (came ts ≡ connections) × IsListening port s.sent_old s.sent_new ts
+all_came tells asks port connections w ts (Ok outcome.Done) unsent s (says, (all, kept)) is = (all, says)
+all_came tells asks port connections w ts (Ok (outcome.Refused n)) unsent s h is = absurd (cc is)
+all_came tells asks port connections w ts (Ok outcome.SomeRefused) unsent s h is = absurd (cc is)
+all_came tells asks port connections w ts (Err e) unsent s h is = absurd (cc is)
+
+-- what a service says, however it ends
+pub turns_said : (tells : Turns) (asks : Asking) (port connections : ℕ) (w : Passage) (r : Result Outcome Stop)
+    (unsent : Type 0) (s : Streams) → (unsent → IsQuiet s)
+    → ServeEnds (serving_of tells asks port connections) w r
+    (output_with unsent s.sent_old s.sent_new s.writer) s.turns → SaysTurns port s
+turns_said tells asks port connections w (Ok outcome.Done) unsent s quiet (says, it) = inr says
+turns_said tells asks port connections w (Ok (outcome.Refused n)) unsent s quiet h = absurd h
+turns_said tells asks port connections w (Ok outcome.SomeRefused) unsent s quiet h = absurd h
+turns_said tells asks port connections w (Err (stop.Vault f)) unsent s quiet h = absurd h
+turns_said tells asks port connections w (Err (stop.Service f)) unsent s quiet
+    (same, none, inl (is, silent)) = inl (none, (port, λ some. refl, (0, quiet silent)))
+turns_said tells asks port connections w (Err (stop.Service f)) unsent s quiet
+    (same, none, inr (is, failed, begins)) = inl (none, begins)
+turns_said tells asks port connections w (Err (stop.Listener f)) unsent s quiet
+    (inl (is, silent, same, none)) = inl (none, (port, λ some. refl, (0, quiet silent)))
+turns_said tells asks port connections w (Err (stop.Listener f)) unsent s quiet (inr (says, it)) = inr says
+turns_said tells asks port connections w (Err (stop.Rights f)) unsent s quiet h = absurd h
+turns_said tells asks port connections w (Err (stop.Batch f)) unsent s quiet h = absurd h
+
 -- what a list may ask for is proper
 list_proper : {X : Type 0} (names : Naming X) (wants : Wanting X) (at : Outside) (o : Option (ListFile X))
     (V : Content) (cs : List Command) → asked_by names wants at o V cs → AllProper cs
@@ -389,16 +443,10 @@ sweeps_proper : (at : Outside) (o : Option (ListFile Wanted)) (V : Content) (cs 
 sweeps_proper at None V cs never = absurd never
 sweeps_proper at (Some it) V cs asked = asked.are.2
 
--- what a service that follows lists may be asked for is proper, and might be asked whatever texts it saw
+-- what a service that follows lists may be asked for is proper
 pub asks_proper : (at : Outside) (lists : Lists) → AsksProper (asked_of at lists)
 asks_proper at lists V cs (inl asked) =
     list_proper AreListed merchants_changes at lists.merchants V cs asked
 asks_proper at lists V cs (inr (inl asked)) =
     list_proper AreRowsIn rights_changes at lists.rights V cs asked
 asks_proper at lists V cs (inr (inr asked)) = sweeps_proper at lists.merchants V cs asked
-
-pub asks_up : (at : Outside) (lists : Lists) (V : Content) (cs : List Command) → asked_of at lists V cs
-    → asked_of (seen at.tells) lists V cs
-asks_up at lists V cs asked = looked_more at (seen at.tells) (λ turn now told. told)
-    (λ path look text. λ _. tt)
-    lists V cs asked

@@ -22,16 +22,17 @@ use Rattle.vault_live.specs.Turns.Turn.{Lost, Served, Attended}
 use Rattle.vault_live.specs.Turns.{Asking}
 use Rattle.vault_jobs.specs.Lists.{asked_of, begin_of}
 use Rattle.vault_jobs.specs.Streams.{Streams}
-use Rattle.vault_jobs.specs.declared.task.Task.{Task}
-use Rattle.vault_jobs.specs.declared.task.Task.TheVariants as task
+use Rattle.vault_jobs.specs.Outside.{Outside}
+use Rattle.vault_promise.specs.Shapes.{Shape, shape_of}
+use Rattle.vault_promise.specs.Shapes.Shape.{Rows, Messages, Connections}
 use Rattle.vault_promise.proofs.RunHistories.{answers_last, opening_last}
 use Rattle.vault_promise.proofs.SoundHistories.{last-append, parts}
 use Rattle.vault_promise.proofs.PipedMessages.{as_run, commands-append, run_append}
 use Rattle.vault_promise.specs.SoundHistories.{HistoriesLast}
-use Rattle.vault_promise.specs.Runs.{Come, Run, RunsComeToHistories, answers, history, opening, told_by}
+use Rattle.vault_promise.specs.Runs.{Come, Run, RunsComeToHistories, answers, history, opening, outside_of}
 use Rattle.vault_promise.specs.Standing.{AnsweredIn, Answers, AnswersStand, Stand, TellsStanding}
 use Rattle.vault_promise.specs.Standing.{IsRepliedIn, TurnsStand, TextsStand, TokensStand}
-use Rattle.vault_promise.specs.Told.{AllAnswer, AreAnswered, Tells, seen, streams_of}
+use Rattle.vault_promise.specs.Told.{AllAnswer, AreAnswered, Tells, streams_of}
 
 abbrev Steps : Type 0
 Steps = List (Step × Content)
@@ -44,7 +45,7 @@ within : {X : Type 0} (a b c d : List X) (x : X) → a ++ ((b ++ x ∷ c) ++ d) 
 within a b c d x = ap (λ l. a ++ l) (append_assoc b (x ∷ c) d) ∙ sym (append_assoc a b (x ∷ (c ++ d)))
 
 -- the answers to commands, with one of them
-answers_at : (W : Content) (first more : List Command) (x : Command)
+pub answers_at : (W : Content) (first more : List Command) (x : Command)
     → answers W (first ++ x ∷ more) ≡ answers W first
     ++ (Answered x (reply (run first W) x), after (run first W) x) ∷ answers (after (run first W) x) more
 answers_at W [] more x = refl
@@ -171,33 +172,33 @@ turns_stand tells asks (Served x ∷ ts) W cs Later stand (first, more, is, here
         behind ++ more,
         is ∙ ap (λ ds. ds ++ more) same ∙ append_assoc front (command_of a ∷ behind) more,
         replied,
-      )) here,
-  subst (λ U. TurnsStand tells U ts Later) (ap (λ ds. run ds W) here.1 ∙ sym (as_run W here.0))
+      )) here.0,
+  subst (λ U. TurnsStand tells U ts Later) (ap (λ ds. run ds W) here.0.1 ∙ sym (as_run W here.0.0))
       (turns_stand tells asks ts (run first W) more Later (later_stand W cs first more Later is stand) rest),
 )
 turns_stand tells asks (Attended first news ∷ ts) W cs Later stand (asked, (more, is, rest)) =
     turns_stand tells asks ts (run first W) more Later (later_stand W cs first more Later is stand) rest
 
 -- what went out of a task stands
-texts_stand : (tells : Turns) (t : Task) (W : Content) (cs : List Command) (s : Streams)
-    (Later : Command → Reply → Type 0) → TokensStand (AnswersIn W cs) Later → Tells tells t W cs s
-    → TellsStanding tells t W s Later
-texts_stand tells (task.Batch who now digits) W cs s Later stand (xs, asked, are, read, went) = record {
+texts_stand : (at : Outside) (shape : Shape) (W : Content) (cs : List Command) (s : Streams)
+    (Later : Command → Reply → Type 0) → TokensStand (AnswersIn W cs) Later → Tells at shape W cs s
+    → TellsStanding at shape W s Later
+texts_stand at (Rows who now digits) W cs s Later stand (xs, asked, are, read, went) = record {
   rows = xs;
   read = read;
   sent = went.0;
   went = went.1;
   stand = replies_stand W cs xs Later stand are;
 }
-texts_stand tells (task.Pipe now digits) W cs s Later stand told =
-    messages_stand tells now digits W cs s Later stand told
-texts_stand tells (task.Serve service) W cs s Later stand (inl (k, is, none)) =
-    subst (λ ts. TurnsStand tells (run (begin_of service.lists W) W) ts Later) (sym none) tt
-texts_stand tells (task.Serve service) W cs s Later stand (inr (more, is, done, told)) =
+texts_stand at (Messages now digits) W cs s Later stand told =
+    messages_stand at.tells now digits W cs s Later stand told
+texts_stand at (Connections service) W cs s Later stand (inl (first, none, quiet)) =
+    subst (λ ts. TurnsStand at.tells (run (begin_of service.lists W) W) ts Later) (sym none) tt
+texts_stand at (Connections service) W cs s Later stand (inr (more, is, done, said, told)) =
     let first : List Command = begin_of service.lists W in
-    turns_stand tells (asked_of (seen tells) service.lists) s.turns (run first W) more Later
+    turns_stand at.tells (asked_of at service.lists) s.turns (run first W) more Later
     (later_stand W cs first more Later is stand) told
-texts_stand tells t W cs s Later stand told = tt
+texts_stand at shape W cs s Later stand told = tt
 
 pub stand_in : HistoriesLast → (V : Content) (c : Option Command) (rs : List Run) (end : Image)
     (come : Come V c rs end) → Sound V → IsHistory V (history V c rs end come) → Stand V c rs end come
@@ -222,7 +223,7 @@ stand_in lasting V c (r ∷ rs) end (inl w, more) sound is =
     replied))
     is_same (has_in U w.undecided rs end more (command_of again) y later) in (
       stand,
-      texts_stand (told_by r.moments) w.task W w.answered r.streams
+      texts_stand (outside_of r) (shape_of w.task W) W w.answered r.streams
           (AnsweredIn U w.undecided rs end more) stand w.tells,
       stand_in lasting U w.undecided rs end more
           (subst Sound ends (lasting V own sound both.0).sound)

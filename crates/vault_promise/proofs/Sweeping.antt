@@ -19,12 +19,12 @@ use Rattle.vault_core.specs.declared.reply.Reply.TheVariants as answer
 use Rattle.vault_batch.specs.declared.asker.Asker.{Asker}
 use Rattle.vault_engine.specs.Passing.{IsBefore, Passage}
 use Rattle.vault_store.specs.declared.vault.Fault.TheVariants.{Memory, Store, Reopen}
-use Rattle.vault_listen.specs.Live.{Turns}
 use Rattle.vault_changes.proofs.GivenRights.{run_more}
 use Rattle.vault_changes.proofs.Purging.{first_dead, purged_first}
 use Rattle.vault_jobs.specs.Ahead.{MaySweep}
 use Rattle.vault_jobs.specs.Doing.{SweepEnds, TimedSweepEnds}
 use Rattle.vault_changes.specs.Grants.{AreDone}
+use Rattle.vault_jobs.specs.Outside.{Outside}
 use Rattle.vault_jobs.specs.Streams.{Streams, output_with}
 use Rattle.vault_jobs.specs.Sweeps.{AreSwept, Begin, left_dead, purge_at, purges_at, swept_vault}
 use Rattle.vault_jobs.specs.declared.clock.Giver.{Giver}
@@ -33,10 +33,11 @@ use Rattle.vault_jobs.specs.declared.stop.Stop.{Stop}
 use Rattle.vault_jobs.specs.declared.stop.Stop.TheVariants as stop
 use Rattle.vault_jobs.specs.declared.task.Outcome.{Outcome as Ended}
 use Rattle.vault_jobs.specs.declared.task.Outcome.TheVariants as outcome
-use Rattle.vault_jobs.specs.declared.task.Task.TheVariants as task
 use Rattle.vault_promise.proofs.SettledRights.{unread_works}
-use Rattle.vault_promise.proofs.TaskAnswers.{Works}
-use Rattle.vault_promise.specs.Told.{IsQuiet, Tells}
+use Rattle.vault_jobs.specs.Tasks.{purged_line}
+use Rattle.vault_promise.proofs.TaskAnswers.{Works, part_of}
+use Rattle.vault_promise.specs.Shapes.Shape.{Purges}
+use Rattle.vault_promise.specs.Told.{IsQuiet, Tells, WentAll, WentPart}
 
 -- the parts of equal lists
 heads : (x y : Reply) (xs ys : List Reply) → x ∷ xs ≡ y ∷ ys → (x ≡ y) × (xs ≡ ys)
@@ -65,31 +66,38 @@ module _ (who : Asker) (now : ℕ) (named : IsName who.caller) (at : IsName who.
             (purged_first V who.caller who.merchant token now (tokens ++ rest) dead both.0),
       )
 
-  module _ (tells : Turns) (w : Passage) (V : Content) (b : IsBefore w V) (sound : Sound V) (s : Streams)
+  module _ (at_all : Outside) (w : Passage) (V : Content) (b : IsBefore w V) (sound : Sound V) (s : Streams)
       (unsent : Type 0) (quiet : unsent → IsQuiet s) (F : Type 0) where
     -- a sweep that may begin
     module _ (giver : Giver) (may : MaySweep giver V who.merchant now) where
       -- purges that are done, and nothing else
       purged : (tokens : List Bytes) → AreSwept who now tokens V
           → w.left_new (swept_vault who now tokens V) (swept_vault who now tokens V)
-          → IsQuiet s ⊎ (left_dead who now tokens V ≡ []) → (F → left_dead who now tokens V ≡ [])
-          → Works tells w V (task.Sweep who now giver) F s
+          → IsQuiet s ⊎ (left_dead who now tokens V ≡ []) × WentPart s (purged_line (length tokens))
+          → (F → (left_dead who now tokens V ≡ []) × WentAll s (purged_line (length tokens)))
+          → Works at_all w V (Purges who now giver) F s
       purged tokens swept left told none = record {
         answered = purges_at who now tokens;
         undecided = None;
         proper = swept_proper tokens (left_dead who now tokens V) V sound swept.0 swept.1;
         last_proper = tt;
-        tells = (tokens, refl, swept, told, inr may);
+        tells = (tokens, refl, swept, by_told told, inr may);
         next = tt;
-        done = λ f. (may, (tokens, refl, none f));
+        done = λ f. (may, (tokens, refl, (none f).0, (none f).1));
         left = left;
       }
+        where
+          by_told : IsQuiet s ⊎ (left_dead who now tokens V ≡ []) × WentPart s (purged_line (length tokens))
+              → IsQuiet s ⊎ (left_dead who now tokens V ≡ []) × MaySweep giver V who.merchant now
+              × WentPart s (purged_line (length tokens))
+          by_told (inl calm) = inl calm
+          by_told (inr (none, part)) = inr (none, may, part)
 
       -- one more at most, which is undecided
       torn : (tokens next : List Bytes) → length next ≤ 1 → AreSwept who now tokens V
           → Begin next (left_dead who now tokens V)
           → w.left_new (swept_vault who now tokens V) (swept_vault who now (tokens ++ next) V) → IsQuiet s
-          → ¬ F → Works tells w V (task.Sweep who now giver) F s
+          → ¬ F → Works at_all w V (Purges who now giver) F s
       torn tokens [] few swept begins left calm undone =
           purged tokens swept
           (subst (λ ts. w.left_new (swept_vault who now tokens V) (swept_vault who now ts V))
@@ -114,10 +122,12 @@ module _ (who : Asker) (now : ℕ) (named : IsName who.caller) (at : IsName who.
 
       sweep_works : (r : Result Ended Stop) → (F → r ≡ Ok outcome.Done)
           → SweepEnds who now w r (output_with unsent s.sent_old s.sent_new s.writer)
-          → Works tells w V (task.Sweep who now giver) F s
+          → Works at_all w V (Purges who now giver) F s
       sweep_works (Ok outcome.Done) fin h =
           let it = h.1.1.1 V b in
-          purged h.1.1.0 it.0 it.3.1 (inr it.1) (λ _. it.1)
+          let went = subst (λ n. WentAll s (purged_line n)) it.2 h.1.2 in
+          purged h.1.1.0 it.0 it.3.1 (inr (it.1, part_of s (purged_line (length h.1.1.0)) went))
+          (λ f. (it.1, went))
       sweep_works (Ok (outcome.Refused n)) fin h =
           let it = h.1.2 V b in
           purged h.1.0 it.0 it.3.1 (inl (quiet h.0)) (λ f. absurd (cc (fin f)))
@@ -131,24 +141,25 @@ module _ (who : Asker) (now : ℕ) (named : IsName who.caller) (at : IsName who.
       sweep_works (Err (stop.Vault Reopen)) fin h = absurd h.1
       sweep_works (Err (stop.Service f)) fin h =
           let it = h.2.1.1 V b in
-          purged h.2.1.0 it.0 it.3.1 (inr it.1) (λ _. it.1)
+          purged h.2.1.0 it.0 it.3.1 (inr (it.1, subst (λ n. WentPart s (purged_line n)) it.2 h.2.2))
+          (λ d. absurd (cc (fin d)))
       sweep_works (Err (stop.Listener f)) fin h = absurd h
       sweep_works (Err (stop.Rights f)) fin h = absurd h
       sweep_works (Err (stop.Batch f)) fin h = absurd h
 
     -- one that may not, or whose merchant wasn't read
-    none_swept : (giver : Giver) → unsent → Tells tells (task.Sweep who now giver) V [] s
-    none_swept giver silent = ([], refl, (refl, refl), inl (quiet silent), inl (refl, quiet silent))
+    none_swept : (giver : Giver) → unsent → Tells at_all (Purges who now giver) V [] s
+    none_swept giver silent = ([], refl, (refl, refl), inl (quiet silent), inl refl)
 
     pub timed_sweep_works : (giver : Giver) (r : Result Ended Stop)
         → (F → r ≡ Ok outcome.Done)
         → TimedSweepEnds giver who now w r (output_with unsent s.sent_old s.sent_new s.writer)
-        → Works tells w V (task.Sweep who now giver) F s
+        → Works at_all w V (Purges who now giver) F s
     timed_sweep_works Words r fin h = sweep_works Words tt r fin h
     timed_sweep_works Clock r fin (inl (near, h)) = sweep_works Clock (near V b) r fin h
     timed_sweep_works Clock r fin (inr (inl (is, silent, same, far))) =
-        unread_works tells w V b sound s unsent quiet F (task.Sweep who now Clock) (none_swept Clock silent)
+        unread_works at_all w V b sound s unsent quiet F (Purges who now Clock) (none_swept Clock silent)
         (λ f. cc (is, fin f)) Memory same
     timed_sweep_works Clock r fin (inr (inr (f, is, silent, h))) =
-        unread_works tells w V b sound s unsent quiet F (task.Sweep who now Clock) (none_swept Clock silent)
+        unread_works at_all w V b sound s unsent quiet F (Purges who now Clock) (none_swept Clock silent)
         (λ d. cc (is, fin d)) f h

@@ -1,7 +1,6 @@
 -- What is answered is answered at moments that were told.
 use Rattle.std.proofs.Common.{◌≡◌, ◌+◌, ℕ, List, [], ◌∷◌, ◌++◌, Option, None, inl, inr, sym, ap, subst}
 use Rattle.std.proofs.Common.{◌∙◌, append-nil, append_assoc, arith, length, suc}
-use Rattle.std.proofs.Math.Logic.{∥∥₁_map}
 use Rattle.sqlite_wal.specs.Recovery.{Image}
 use Rattle.vault_core.specs.Runs.{run}
 use Rattle.vault_core.specs.Vault.{Vault as Content}
@@ -12,12 +11,13 @@ use Rattle.vault_listen.specs.Live.{AreGiven, AreTold, Turns}
 use Rattle.vault_live.specs.Turns.{Turn}
 use Rattle.vault_live.specs.Turns.Turn.{Lost, Served, Attended}
 use Rattle.vault_jobs.specs.Streams.{Streams}
-use Rattle.vault_jobs.specs.declared.task.Task.{Task}
-use Rattle.vault_jobs.specs.declared.task.Task.TheVariants as task
+use Rattle.vault_jobs.specs.Outside.{Outside}
+use Rattle.vault_promise.specs.Shapes.{Shape, shape_of}
+use Rattle.vault_promise.specs.Shapes.Shape.{Commands, Purges, Rows, Messages, Connections, Words}
 use Rattle.vault_promise.proofs.WentOut.{went_out}
-use Rattle.vault_promise.specs.Sentences.{AllTold, EachTold, IsAnything, MomentsAreTold, TaskTold, TurnsTold}
+use Rattle.vault_promise.specs.Sentences.{EachTold, IsAnything, IsTimely, TaskTold, TurnsTold}
 use Rattle.vault_promise.specs.Sentences.{TurnsTell, WentOut}
-use Rattle.vault_promise.specs.Runs.{Come, Run, RunsComeToHistories, told_by}
+use Rattle.vault_promise.specs.Runs.{Come, Comes, Run, kept_by, outside_of, undecided_by}
 
 told_at : {X : Type 0} (tells : Turns) (turn : ℕ) (first more : List (Asked X)) (x : Asked X)
     → AreTold tells turn (pairs_of (first ++ x ∷ more)) → tells (turn + length first) x.pair.0
@@ -43,35 +43,25 @@ turns_told tells W (Served x ∷ ts) (it, all) = (
   each_told tells None None it.exchanges it.heard.more it.heard.given,
   turns_told tells (vault_after W it.exchanges) ts all,
 )
-turns_told tells W (Attended cs news ∷ ts) it = turns_told tells (run cs W) ts it
+turns_told tells W (Attended cs news ∷ ts) (said, all) = turns_told tells (run cs W) ts all
 
-task_told : (tells : Turns) (t : Task) (W : Content) (cs : List Command) (s : Streams)
-    (it : WentOut tells t W cs s IsAnything) → TaskTold tells t W cs s it
-task_told tells (task.Change c) W cs s it = tt
-task_told tells (task.Give rights now) W cs s it = tt
-task_told tells (task.Settle rights now) W cs s it = tt
-task_told tells (task.SetMerchants rows now) W cs s it = tt
-task_told tells (task.Sweep who now giver) W cs s it = tt
-task_told tells (task.Batch who now digits) W cs s (it, asked) = each_told tells now digits it.rows []
-    (subst (λ xs. AreGiven tells now digits (pairs_of xs)) (sym (append-nil it.rows)) it.read.given)
-task_told tells (task.Pipe now digits) W cs s it =
-    each_told tells now digits it.exchanges it.heard.more it.heard.given
-task_told tells (task.Serve service) W cs s (inl none) = tt
-task_told tells (task.Serve service) W cs s (inr (done, it)) = turns_told tells _ s.turns it
-task_told tells (task.Show it) W cs s shown = tt
+task_told : (at : Outside) (shape : Shape) (W : Content) (cs : List Command) (s : Streams)
+    (it : WentOut at shape W cs s IsAnything) → TaskTold at shape W cs s it
+task_told at (Commands all line) W cs s it = tt
+task_told at (Purges who now giver) W cs s it = tt
+task_told at (Rows who now digits) W cs s (it, asked) = each_told at.tells now digits it.rows []
+    (subst (λ xs. AreGiven at.tells now digits (pairs_of xs)) (sym (append-nil it.rows)) it.read.given)
+task_told at (Messages now digits) W cs s it =
+    each_told at.tells now digits it.exchanges it.heard.more it.heard.given
+task_told at (Connections service) W cs s (inl none) = tt
+task_told at (Connections service) W cs s (inr (done, said, it)) = turns_told at.tells _ s.turns it
+task_told at (Words text) W cs s it = tt
 
-pub all_told : (V : Content) (c : Option Command) (rs : List Run) (end : Image) (come : Come V c rs end)
-    → AllTold V c rs end come
-all_told V c [] end come = tt
-all_told V c (r ∷ rs) end (inl w, more) =
-    let went = went_out (told_by r.moments) w.task w.opened w.answered r.streams IsAnything
-    (λ first rest x is. tt) w.tells in (
-      w.asked,
-      (went, task_told (told_by r.moments) w.task w.opened w.answered r.streams went),
-      all_told (run w.answered w.opened) w.undecided rs end more,
-    )
-all_told V c (r ∷ rs) end (inr rests, more) = all_told V c rs end more
-
-pub moments_told : RunsComeToHistories → MomentsAreTold
-moments_told come rs end V sound of runs =
-    ∥∥₁_map (come rs end V sound of runs) (λ it. (it.0, all_told V None rs end it.0))
+pub is_timely : (V : Content) (c : Option Command) (r : Run) (it : Comes V c r) (rs : List Run) (end : Image)
+    (more : Come (kept_by V c r it) (undecided_by V c r it) rs end) → IsTimely V c r it rs end more
+is_timely V c r (inl w) rs end more =
+    let shape = shape_of w.task w.opened in
+    let went = went_out (outside_of r) shape w.opened w.answered r.streams IsAnything
+    (λ first rest x is. tt) w.tells in
+    (w.asked, (went, task_told (outside_of r) shape w.opened w.answered r.streams went))
+is_timely V c r (inr rests) rs end more = tt

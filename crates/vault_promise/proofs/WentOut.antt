@@ -1,7 +1,6 @@
 -- What went out of a task, by the commands that it answered.
 use Rattle.std.proofs.Common.{◌≡◌, ℕ, List, [], ◌∷◌, ◌++◌, Option, None}
-use Rattle.std.proofs.Common.{inl, inr, sym, ap, subst, ◌∙◌, append_assoc, length}
-use Rattle.std.proofs.Math.Seq.{take-length}
+use Rattle.std.proofs.Common.{inl, inr, sym, ap, subst, ◌∙◌, append_assoc}
 use Rattle.vault_core.specs.Runs.{run}
 use Rattle.vault_core.specs.Vault.{Vault as Content}
 use Rattle.vault_core.specs.declared.command.Command.{Command}
@@ -12,11 +11,12 @@ use Rattle.vault_live.specs.Turns.Turn.{Lost, Served, Attended}
 use Rattle.vault_live.specs.Turns.{Asking}
 use Rattle.vault_jobs.specs.Lists.{asked_of, begin_of}
 use Rattle.vault_jobs.specs.Streams.{Streams}
-use Rattle.vault_jobs.specs.declared.task.Task.{Task}
-use Rattle.vault_jobs.specs.declared.task.Task.TheVariants as task
+use Rattle.vault_jobs.specs.Outside.{Outside}
 use Rattle.vault_promise.proofs.PipedMessages.{as_run, commands-append, run_append}
 use Rattle.vault_promise.specs.Sentences.{EachAsked, TextsTell, TurnsTell, WentOut}
-use Rattle.vault_promise.specs.Told.{AllAnswer, AreAnswered, AreFirst, Tells, seen, streams_of}
+use Rattle.vault_promise.specs.Shapes.{Shape}
+use Rattle.vault_promise.specs.Shapes.Shape.{Commands, Purges, Rows, Messages, Connections, Words}
+use Rattle.vault_promise.specs.Told.{AllAnswer, AreAnswered, Tells, streams_of}
 
 -- of each of these commands this is true, at the vault that those before it leave
 abbrev pub EachOf : Content → List Command → (Content → Command → Type 0) → Type 0
@@ -63,47 +63,29 @@ unfolding texts_tell
 turns_tell tells asks [] W cs Is each told = tt
 turns_tell tells asks (Lost ∷ ts) W cs Is each told = turns_tell tells asks ts W cs Is each told
 turns_tell tells asks (Served x ∷ ts) W cs Is each (first, more, is, here, rest) = (
-  texts_tell tells None None W first (streams_of x) Is (each_first W cs first more Is is each) here,
-  subst (λ U. TurnsTell tells U ts Is) (ap (λ ds. run ds W) here.1 ∙ sym (as_run W here.0))
+  texts_tell tells None None W first (streams_of x) Is (each_first W cs first more Is is each) here.0,
+  subst (λ U. TurnsTell tells U ts Is) (ap (λ ds. run ds W) here.0.1 ∙ sym (as_run W here.0.0))
       (turns_tell tells asks ts (run first W) more Is (each_later W cs first more Is is each) rest),
 )
 turns_tell tells asks (Attended first news ∷ ts) W cs Is each (asked, (more, is, rest)) =
-    turns_tell tells asks ts (run first W) more Is (each_later W cs first more Is is each) rest
+    (asked.1, turns_tell tells asks ts (run first W) more Is (each_later W cs first more Is is each) rest)
 
--- all are the first so many
-all_first : (cs all : List Command) → cs ≡ all → AreFirst cs all
-all_first cs all is = (length all, is ∙ sym (take-length all))
-
-pub went_out : (tells : Turns) (t : Task) (W : Content) (cs : List Command) (s : Streams)
-    (Is : Content → Command → Type 0) → EachOf W cs Is → Tells tells t W cs s → WentOut tells t W cs s Is
-went_out tells (task.Change c) W cs s Is each (inl (quiet, first)) = (inl quiet, first)
-went_out tells (task.Change c) W cs s Is each (inr (is, done)) = (inr (is, done), (1, is))
-went_out tells (task.Give rights now) W cs s Is each (inl (quiet, first)) = (inl quiet, first)
-went_out tells (task.Give rights now) W cs s Is each (inr (is, done)) = (inr (is, done), all_first cs _ is)
-went_out tells (task.Settle rights now) W cs s Is each (inl (quiet, first)) = (inl quiet, first)
-went_out tells (task.Settle rights now) W cs s Is each (inr (is, done)) = (inr (is, done), all_first cs _ is)
-went_out tells (task.SetMerchants rows now) W cs s Is each (inl (quiet, first)) = (inl quiet, first)
-went_out tells (task.SetMerchants rows now) W cs s Is each (inr (is, done)) =
-    (inr (is, done), all_first cs _ is)
-went_out tells (task.Sweep who now giver) W cs s Is each (tokens, is, swept, inl quiet, inl (few, calm)) =
-    (inl quiet, (tokens, is, swept, inl few))
-went_out tells (task.Sweep who now giver) W cs s Is each (tokens, is, swept, inl quiet, inr may) =
-    (inl quiet, (tokens, is, swept, inr may))
-went_out tells (task.Sweep who now giver) W cs s Is each (tokens, is, swept, inr none, inl (few, calm)) =
-    (inl calm, (tokens, is, swept, inl few))
-went_out tells (task.Sweep who now giver) W cs s Is each (tokens, is, swept, inr none, inr may) =
-    (inr (may, (tokens, is, none)), (tokens, is, swept, inr may))
-went_out tells (task.Batch who now digits) W cs s Is each (xs, asked, are, read, (sent, went)) = (
+pub went_out : (at : Outside) (shape : Shape) (W : Content) (cs : List Command) (s : Streams)
+    (Is : Content → Command → Type 0) → EachOf W cs Is → Tells at shape W cs s → WentOut at shape W cs s Is
+went_out at (Commands all line) W cs s Is each told = told
+went_out at (Purges who now giver) W cs s Is each told = told
+went_out at (Rows who now digits) W cs s Is each (xs, asked, are, read, (sent, went)) = (
   record { rows = xs; read = read; sent = sent; went = went; each = each_asked W cs xs Is each are },
   asked,
 )
-went_out tells (task.Pipe now digits) W cs s Is each told = texts_tell tells now digits W cs s Is each told
-went_out tells (task.Serve service) W cs s Is each (inl (k, is, none)) = inl none
-went_out tells (task.Serve service) W cs s Is each (inr (more, is, done, told)) =
+went_out at (Messages now digits) W cs s Is each told = texts_tell at.tells now digits W cs s Is each told
+went_out at (Connections service) W cs s Is each (inl (first, none, quiet)) = inl (none, quiet)
+went_out at (Connections service) W cs s Is each (inr (more, is, done, said, told)) =
     let first : List Command = begin_of service.lists W in
     inr (
       done,
-      turns_tell tells (asked_of (seen tells) service.lists) s.turns (run first W) more Is
+      said,
+      turns_tell at.tells (asked_of at service.lists) s.turns (run first W) more Is
           (each_later W cs first more Is is each) told,
     )
-went_out tells (task.Show it) W cs s Is each told = told
+went_out at (Words text) W cs s Is each told = told

@@ -12,7 +12,7 @@ use Rattle.vault_jobs.specs.declared.task.Task.{Task}
 use Rattle.vault_jobs.specs.declared.task.Task.TheVariants.{Pipe}
 use Rattle.vault_app.specs.Asked.{AsksFor}
 use Rattle.vault_app.specs.Plans.{IsTaskOf}
-use Rattle.vault_promise.specs.Runs.{AreOf, Rests, Run, Runs, at_moments, before, told_by}
+use Rattle.vault_promise.specs.Runs.{AreOf, Rests, Run, Runs, around, before, told_by}
 use Rattle.vault_promise.specs.Standing.{IsRepliedIn, TokensStand}
 use Rattle.vault_promise.specs.Told.{AreHeard}
 
@@ -24,7 +24,7 @@ IsNoPipe task = Unit {0}
 -- the run answered no messages of its input: it rests, or its words ask for another task
 abbrev pub DidNoPipe : Run → Type 0
 DidNoPipe r = Rests r
-    ⊎ (t : Task) × AsksFor r.words (λ job. IsTaskOf (at_moments r.moments) job t) × IsNoPipe t
+    ⊎ (t : Task) × AsksFor r.words (λ job. IsTaskOf (around r) job t) × IsNoPipe t
 
 -- The run answered these messages of its input, from this vault: what went out are the texts that answer
 -- them, up to some byte.

@@ -20,8 +20,7 @@ use Rattle.vault_wire.specs.declared.watched.Watched.{Watched}
 use Rattle.vault_jobs.specs.Streams.{Known, seen_over, seen_with}
 use Rattle.vault_app.specs.declared.ending.Ending.{Ending}
 use Rattle.vault_app.specs.declared.ending.Ending.TheVariants.{NotOpened}
-use Rattle.vault_promise.specs.Runs.{IsFound}
-use Rattle.vault_promise.specs.Sentences.{AsksTask}
+use Rattle.vault_promise.specs.Runs.{AsksTask, IsFound}
 
 -- Files with these bytes hold a database without a table; or one in the newest schema, whose rows are those
 -- of a sound vault, if none of them lacks its last column.

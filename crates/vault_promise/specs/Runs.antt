@@ -24,23 +24,32 @@ use Rattle.vault_steps.specs.Entries.{AreSome}
 use Rattle.vault_recover.specs.Histories.{Answered, IsHistory, Reopened, Step, Undecided}
 use Rattle.vault_listen.specs.Live.{Turns}
 use Rattle.vault_live.specs.Turns.{Turn}
+use Rattle.std.specs.Io.KnownBytes.{Appends}
+use Rattle.vault_live.specs.Told.{Tells as TellsLine}
+use Rattle.vault_wire.specs.Watching.{inner_of, is_stopped}
 use Rattle.vault_wire.specs.declared.watched.Watched.{Watched}
+use Rattle.vault_words.specs.Why.{HasFewDigits}
+use Rattle.vault_jobs.specs.Outside.{Outside}
 use Rattle.vault_jobs.specs.Streams.{Known, Streams, seen_as, streams, with_turns}
 use Rattle.vault_jobs.specs.declared.task.Task.{Task}
 use Rattle.vault_words.specs.Commands.{program_app}
 use Rattle.vault_words.specs.Jobs.{IsAsked}
 use Rattle.vault_words.specs.declared.jobs.Job.{Job}
 use Rattle.vault_app.specs.Plans.{EndsPlanless, IsTaskOf, saying}
-use Rattle.vault_app.specs.Asked.{AsksFor}
-use Rattle.vault_app.specs.Ending.{IsDone, said_on}
+use Rattle.vault_app.specs.Asked.{AsksFor, schema_line, sound_line}
+use Rattle.vault_app.specs.Commands.Trial.{TrialEnds}
+use Rattle.vault_jobs.specs.declared.trial.Trial.{Trial}
+use Rattle.vault_verdict.specs.declared.sizes.Sizes.{Sizes}
+use Rattle.vault_app.specs.Ending.{IsDone, Said, Says, said_on}
 use Rattle.vault_app.specs.Jobs.{DoesRun}
-use Rattle.vault_app.specs.Saying.{IsBeside, OfMove, Purpose, path_of}
-use Rattle.vault_app.specs.World.{World, anything}
+use Rattle.vault_app.specs.Saying.{IsBeside, OfCheck, OfMove, OfTask, OfTrial, Purpose, path_of}
+use Rattle.vault_app.specs.World.{World, anything, outside_in}
 use Rattle.vault_app.specs.declared.ending.Ending.{Ending}
 use Rattle.vault_app.specs.declared.ending.Ending.TheVariants.{NotOpened}
 use Rattle.vault_file.specs.declared.fault.NotOpened.{NotOpened as FileFault}
+use Rattle.vault_promise.specs.Shapes.{shape_of}
 use Rattle.vault_promise.specs.SoundHistories.{Lasts}
-use Rattle.vault_promise.specs.Told.{AllDone, IsNext, IsQuiet, Tells}
+use Rattle.vault_promise.specs.Told.{AllDone, IsNext, IsQuiet, Tells, WentPart}
 
 -- which moments a clock may tell at which turn: those of which this is true
 abbrev pub Moments : Type 0
@@ -49,22 +58,75 @@ Moments = ℕ → ℕ → Bool
 abbrev pub told_by : Moments → Turns
 told_by moments turn now = moments turn now ≡ true
 
--- a clock tells no other moments than these
-abbrev pub TellsOnly : Turns → Moments → Type 0
-TellsOnly tells moments = (turn now : ℕ) → tells turn now → told_by moments turn now
+-- Which texts files may have: the one at a path before a run begins, and at a look between connections. Those
+-- of which this is true.
+pub record Texts : Type 0 where
+  pub said : List ℕ → List ℕ → Bool
+  pub looked : List ℕ → ℕ → List ℕ → Bool
 
--- a world in which these moments may be told, and anything else
-abbrev pub at_moments : Moments → World
-at_moments moments = record anything { tells = told_by moments }
+-- a world in which these moments and these texts may be told, and anything else
+abbrev pub world_with : Moments → Texts → World
+world_with moments texts = record anything {
+  tells = told_by moments;
+  says = λ path text. texts.said path text ≡ true;
+  looks = λ path look text. texts.looked path look text ≡ true;
+}
 
--- a run: the bytes that the files had before it, its words, the moments that its clock may tell, how it
--- ended, and what came in and went out, with its turns, but for the line that says how it ended
+-- a world tells no other moments and no other texts than these
+pub record TellsOnly (world : World) (moments : Moments) (texts : Texts) : Type 0 where
+  pub tells : (turn now : ℕ) → world.tells turn now → told_by moments turn now
+  pub says : (path text : List ℕ) → world.says path text → texts.said path text ≡ true
+  pub looks : (path : List ℕ) (look : ℕ) (text : List ℕ) → world.looks path look text
+      → texts.looked path look text ≡ true
+
+-- What is said as a run ends: what the output has taken in the end, behind what its streams have, and whether
+-- it failed; and what the errors had taken before the run and in the end, and whether they failed.
+pub record Last : Type 0 where
+  pub sent : Known
+  pub failed : Bool
+  pub errors_old : Known
+  pub errors_new : Known
+  pub errors_failed : Bool
+
+-- that of an output and of errors
+abbrev pub last_of : {W E : Type 0} → (W → Known) → Watched W → (E → Known) → Watched E → Watched E → Last
+last_of contents o said e e' = record {
+  sent = contents (inner_of o);
+  failed = is_stopped o;
+  errors_old = said (inner_of e);
+  errors_new = said (inner_of e');
+  errors_failed = is_stopped e';
+}
+
+-- A run: the bytes that the files had before it, its words, the moments that its clock may tell, the texts that
+-- files may have, how it ended, what came in and went out, with its turns, and what it said of how it ended.
 pub record Run : Type 0 where
   pub begins : Image
   pub words : List Text
   pub moments : Moments
+  pub texts : Texts
   pub ending : Ending
   pub streams : Streams
+  pub last : Last
+
+-- the world of a run, and what of it is told to its task
+abbrev pub around : Run → World
+around r = world_with r.moments r.texts
+
+abbrev pub outside_of : Run → Outside
+outside_of r = outside_in (around r)
+
+-- what is said between two states of a stream: nothing, or these bytes, or a beginning of them if it failed
+abbrev pub said_between : Known → Known → Bool → Said
+said_between old new failed =
+    record { nothing = Appends old new []; bytes = λ line. TellsLine old new failed line }
+
+-- A run said how it ended and no more: behind what its task put out the output took the line of its ending, or
+-- none, and the errors took theirs. What they say of bad words has too few digits for a card number.
+abbrev pub EndsSaid : Run → Type 0
+EndsSaid r = (why : List ℕ) × HasFewDigits why
+    × Says why r.ending (said_between r.streams.sent_new r.last.sent r.last.failed)
+    (said_between r.last.errors_old r.last.errors_new r.last.errors_failed)
 
 -- the vault, or the one after a command that may be done
 abbrev pub perhaps : Content → Option Command → Content
@@ -73,7 +135,8 @@ perhaps V (Some c) = after V c
 
 -- Whoever opens files with these bytes finds the vault, or the one after a command that is undecided; or,
 -- where none is, the vault in some schema, as a migration that is stopped leaves it, or no table yet, where
--- it is the empty one.
+-- it is the empty one. Of bytes that hold no database `MayFind` says all trees may be found, so this is false
+-- of them.
 abbrev pub AreOf : Image → Content → Option Command → Type 0
 AreOf image V c = KeepsEither image V (perhaps V c)
     ⊎ (c ≡ None) × KeepsSome image V
@@ -84,7 +147,8 @@ abbrev pub AreNew : Image → Content → Option Command → Type 0
 AreNew image V c = KeepsEither image V (perhaps V c)
     ⊎ (c ≡ None) × (V ≡ empty_vault) × ((before : Trees) × AreBlank before × KeepsFirst image before)
 
--- the bytes hold the vault, in some schema; or no table, where it is the empty one
+-- The bytes hold the vault, in some schema; or no table, where it is the empty one. It tells of bytes that
+-- hold a database, as those do of which `AreOf` is true.
 abbrev pub Bear : Image → Content → Type 0
 Bear image V = ∥ ((found : Trees) × MayFind image found
     × (AreSome (lookups_of V) found ⊎ (V ≡ empty_vault) × AreBlank found)) ∥₁
@@ -109,12 +173,31 @@ ShownIsLeft {D} g = (image : Image) (left : FileStore D g) → IsClean (files.vi
 abbrev pub IsAside : Job → Type 0
 IsAside job = IsBeside (saying job).purpose
 
+-- the trial is one for this
+abbrev pub IsTrialFor : Purpose → World → Trial → Type 0
+IsTrialFor (OfTrial Is) world t = Is world t
+IsTrialFor purpose world t = ⊥
+
+-- What goes out of a trial, a check or a move. Of a trial it is the texts that answer its messages, by a vault
+-- of its own in memory, or a beginning of them. Of a check and a move it is nothing, or the line of the file's
+-- sizes, or of its schema, or a beginning of it.
+abbrev pub GoesOutAside : Purpose → Run → Type 0
+GoesOutAside (OfTrial Is) r =
+    (t : Trial) × Is (around r) t × TrialEnds (told_by r.moments) t r.ending r.streams
+GoesOutAside (OfCheck path) r = IsQuiet r.streams ⊎ (sizes : Sizes) × WentPart r.streams (sound_line sizes)
+GoesOutAside (OfMove path) r = IsQuiet r.streams ⊎ WentPart r.streams schema_line
+GoesOutAside (OfTask path Is) r = ⊥
+
+-- the words ask for a trial, a check or a move, and so much went out
+abbrev pub IsAsideRun : Run → Type 0
+IsAsideRun r = AsksFor r.words (λ job. GoesOutAside (saying job).purpose r)
+
 -- A run rests: it ended without a plan, by a name, a right, a list, a moment or its words, or with help; or
 -- its file wasn't opened; and nothing went out but help. Or its words ask for a trial, a check or a move.
 abbrev pub Rests : Run → Type 0
-Rests r = EndsPlanless anything r.words r.ending (IsQuiet r.streams)
+Rests r = (EndsPlanless anything r.words r.ending (IsQuiet r.streams)
     ⊎ ((why : FileFault) × (r.ending ≡ NotOpened why)) × IsQuiet r.streams
-    ⊎ AsksFor r.words IsAside
+    ⊎ IsAsideRun r) × EndsSaid r
 
 -- the words ask for a move to the newest schema
 abbrev pub IsMoving : Purpose → Type 0
@@ -123,6 +206,10 @@ IsMoving purpose = ⊥
 
 abbrev pub AsksMove : List Text → Type 0
 AsksMove words = AsksFor words (λ job. IsMoving (saying job).purpose)
+
+-- the words ask for a task on a vault
+abbrev pub AsksTask : List Text → Type 0
+AsksTask words = AsksFor words (λ job. (t : Task) × IsTaskOf anything job t)
 
 -- if the file isn't opened, that isn't for its schema or its rows: it is refused by neither 30 nor 31
 abbrev pub IsSpared : Run → Type 0
@@ -133,13 +220,13 @@ pub record Spared (V : Content) (c : Option Command) (r : Run) : Type 0 where
   pub newest : AreNew r.begins V c → IsSpared r
   pub moving : AreOf r.begins V c → AsksMove r.words → IsSpared r
 
--- The words of a run ask for a task, at a moment that they fix or that was told. It opened the vault V, or
--- the one after the command that was undecided: the one that the bytes hold. From there commands were
--- answered, one after the other, and then the store failed at one more at most. What went out tells of those
--- answered; and so does the end, where it is done.
+-- The words of a run ask for a task, at a moment that they fix or that was told, by a list of which its file
+-- had the text. It opened the vault V, or the one after the command that was undecided: the one that the bytes
+-- hold. From there commands were answered, one after the other, and then the store failed at one more at most.
+-- What went out tells of those answered; and so does the end, where it is done.
 pub record Work (V : Content) (c : Option Command) (r : Run) : Type 0 where
   pub task : Task
-  pub asked : AsksFor r.words (λ job. IsTaskOf (at_moments r.moments) job task)
+  pub asked : AsksFor r.words (λ job. IsTaskOf (around r) job task)
   pub opened : Content
   pub is : (opened ≡ V) ⊎ (opened ≡ perhaps V c)
   pub holds : Bear r.begins opened
@@ -147,9 +234,10 @@ pub record Work (V : Content) (c : Option Command) (r : Run) : Type 0 where
   pub undecided : Option Command
   pub proper : AllProper answered
   pub last_proper : IfSome undecided IsProper
-  pub tells : Tells (told_by r.moments) task opened answered r.streams
-  pub next : IfSome undecided (IsNext (told_by r.moments) task opened answered r.streams)
-  pub done : IsDone r.ending → AllDone task opened answered
+  pub tells : Tells (outside_of r) (shape_of task opened) opened answered r.streams
+  pub next : IfSome undecided (IsNext (outside_of r) (shape_of task opened) opened answered r.streams)
+  pub done : IsDone r.ending → AllDone (outside_of r) (shape_of task opened) opened answered r.streams
+  pub says : EndsSaid r
   pub opens : (why : FileFault) → ¬ (r.ending ≡ NotOpened why)
 
 -- it worked so, or it rests, and its file is spared
@@ -193,17 +281,17 @@ IsFound words Holding = (job : Job) (path : List ℕ) → IsAsked program_app wo
     → file_of job ≡ Some path → Holding path
 
 -- Whatever a run of the program does, by the clause `does` of `run`, in a world where the files at the path
--- of its words hold these bytes, and its clock tells no other moments than these; and with whatever bytes the
--- next one begins: it is a run up to these.
+-- of its words hold these bytes, and that tells no other moments and texts than these; and with whatever bytes
+-- the next one begins: it is a run up to these.
 module _ {D R W E K X P : Type 0} (g : Ghosts D) (remaining : R → Known) (contents : W → Known)
     (said : E → Known) (world_of : K → X → P → World) where
   abbrev pub EveryRunIsOne : Type 0
   EveryRunIsOne =
       (time : K) (desk : X) (paths : P) (image next : Image) (words : List Text)
-      (result : ℕ × Option (FileStore D g)) (moments : Moments) (turns : List Turn) (i i' : Watched R)
-      (o told o' : Watched W) (e e' : Watched E)
+      (result : ℕ × Option (FileStore D g)) (moments : Moments) (texts : Texts) (turns : List Turn)
+      (i i' : Watched R) (o told o' : Watched W) (e e' : Watched E)
       → (let world : World = world_of time desk paths in
-      TellsOnly world.tells moments
+      TellsOnly world moments texts
       → let s : Streams = with_turns (streams remaining i i' contents o told) turns in
       (it : DoesRun world words result (seen_as (i' ≡ i) (told ≡ o) s) (said_on contents told o')
       (said_on said e e'))
@@ -212,8 +300,10 @@ module _ {D R W E K X P : Type 0} (g : Ghosts D) (remaining : R → Known) (cont
         begins = image;
         words = words;
         moments = moments;
+        texts = texts;
         ending = it.ending;
         streams = s;
+        last = last_of contents o' said e e';
       }) next)
 
 -- the bytes with which the first of runs begins, or those at the end where there is none
@@ -238,6 +328,19 @@ abbrev pub Follow : (V : Content) (c : Option Command) (rs : List Run) (end : Im
 Follow V c [] end come = Unit {0}
 Follow V c (r ∷ rs) end (it, more) = AreOf r.begins V c × Leads V c r it (before rs end)
     × Follow (kept_by V c r it) (undecided_by V c r it) rs end more
+
+-- What is said of one run of a reading: by the vault and the undecided command that those before it leave, what
+-- it comes to, and those behind it.
+abbrev pub OfRun : Type 1
+OfRun = (V : Content) (c : Option Command) (r : Run) (it : Comes V c r) (rs : List Run) (end : Image)
+    → Come (kept_by V c r it) (undecided_by V c r it) rs end → Type 0
+
+-- it is true of each of them
+abbrev pub Each : OfRun → (V : Content) (c : Option Command) (rs : List Run) (end : Image) → Come V c rs end
+    → Type 0
+Each Is V c [] end come = Unit {0}
+Each Is V c (r ∷ rs) end (it, more) =
+    Is V c r it rs end more × Each Is (kept_by V c r it) (undecided_by V c r it) rs end more
 
 -- commands are answered from a vault
 abbrev pub answers : Content → List Command → List (Step × Content)

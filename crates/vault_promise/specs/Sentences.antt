@@ -1,7 +1,7 @@
 -- The sentences of the headline, of any list of runs: each follows from the promise.
 use Rattle.std.proofs.Common.{inl, inr}
-use Rattle.std.specs.Prelude.{◌≡◌, ◌⊎◌, ◌≤◌, ◌+◌, ℕ, Bool, List, [], ◌∷◌, ◌++◌, Ok, Option, Some, None, take}
-use Rattle.std.specs.Prelude.{true, length, All}
+use Rattle.std.specs.Prelude.{◌≡◌, ◌⊎◌, ◌≤◌, ◌<◌, ◌+◌, ℕ, Bool, List, [], ◌∷◌, ◌++◌, Ok, Option, Some, None, take}
+use Rattle.std.specs.Prelude.{length, All, IfSome}
 use Rattle.std.specs.List.{Contains}
 use Rattle.std.specs.Io.KnownBytes.{Appends}
 use Rattle.sqlite_wal.specs.Recovery.{Image}
@@ -13,6 +13,8 @@ use Rattle.vault_core.specs.Table.{after, reply}
 use Rattle.vault_core.specs.Vault.{Vault as Content, empty_vault, entry_at}
 use Rattle.vault_core.specs.Yields.{answered_so, given_by, gives_number}
 use Rattle.vault_core.specs.declared.command.Command.{Command}
+use Rattle.vault_core.specs.declared.command.Command.TheVariants.{Detokenize as Redeem}
+use Rattle.vault_core.specs.declared.limit.TheConstants.{MOST_COUNT}
 use Rattle.vault_core.specs.declared.reply.Reply.TheVariants.{Number}
 use Rattle.vault_core.specs.declared.row.Entry.{Entry}
 use Rattle.vault_recover.specs.Histories.{AnswersToken, IsHistory, Step, answers_number, how_many, last}
@@ -23,34 +25,29 @@ use Rattle.vault_batch.specs.Batched.{lines}
 use Rattle.vault_batch.specs.Lines.{first_line}
 use Rattle.vault_http.specs.Exchanges.{answer_for, fault_text, last_text}
 use Rattle.vault_wire.specs.declared.fault.WireFault.{WireFault}
-use Rattle.vault_wire.specs.Parts.{Parts}
+use Rattle.vault_wire.specs.Parts.{Parts, closes}
 use Rattle.vault_engine.specs.Asking.{Asked, text_at, texts, vault_after}
 use Rattle.vault_listen.specs.Live.{Turns}
 use Rattle.vault_live.specs.Turns.{Turn}
 use Rattle.vault_live.specs.Turns.Turn.{Lost, Served, Attended}
-use Rattle.vault_changes.specs.Changes.{changes_at, rights_of}
-use Rattle.vault_changes.specs.Grants.{AreDone, grants_at}
-use Rattle.vault_changes.specs.Settings.{settings_at}
-use Rattle.vault_store.specs.Listed.{merchant_rows}
+use Rattle.vault_changes.specs.Grants.{AreDone}
 use Rattle.vault_jobs.specs.Lists.{begin_of}
-use Rattle.vault_jobs.specs.ListingLines.{shown_text}
-use Rattle.vault_jobs.specs.Ahead.{MaySweep}
+use Rattle.vault_jobs.specs.Outside.{Outside}
 use Rattle.vault_jobs.specs.Streams.{Streams}
-use Rattle.vault_jobs.specs.Sweeps.{AreSwept, purges_at}
-use Rattle.vault_jobs.specs.declared.task.Task.{Task}
-use Rattle.vault_jobs.specs.declared.task.Task.TheVariants.{Batch, Change, Give, Pipe, Serve}
-use Rattle.vault_jobs.specs.declared.task.Task.TheVariants.{SetMerchants, Settle, Show, Sweep}
-use Rattle.clap.specs.Words.{Text}
 use Rattle.vault_app.specs.Asked.{AsksFor, AsksHelp}
 use Rattle.vault_app.specs.Ending.{IsDone}
 use Rattle.vault_app.specs.Plans.{IsTaskOf}
-use Rattle.vault_app.specs.World.{anything}
-use Rattle.vault_promise.specs.DueNumbers.{AsksForDue, IsAskedWhereDue, number_text}
-use Rattle.vault_promise.specs.Runs.{AreNew, AreOf, AsksMove, Bear, Come, IsAside, IsSpared, MakesNew, Run}
-use Rattle.vault_promise.specs.Runs.{Runs, Work, at_moments, before, history, kept_by, told_by, undecided_by}
+use Rattle.vault_promise.specs.DueNumbers.{AsksForDue, IsAskedWhereDue, IsDue, number_text}
+use Rattle.vault_promise.specs.ListedRights.{FollowsIts}
+use Rattle.vault_promise.specs.Runs.{AreNew, AreOf, AsksMove, AsksTask, Bear, Come, EndsSaid, IsAside, IsAsideRun}
+use Rattle.vault_promise.specs.Runs.{Each, IsSpared, MakesNew, OfRun, Run, Runs, Work, around, before, history, kept_by}
+use Rattle.vault_promise.specs.Runs.{outside_of, undecided_by}
+use Rattle.vault_promise.specs.Shapes.{Shape, shape_of}
+use Rattle.vault_promise.specs.Shapes.Shape.{Rows, Messages, Connections}
 use Rattle.vault_promise.specs.SoundHistories.{LiveTokensYieldIn, TokensFailIn}
 use Rattle.vault_promise.specs.Standing.{Stand}
-use Rattle.vault_promise.specs.Told.{AllDone, AreFirst, AreHeard, AreRead, IsNext, IsQuiet, streams_of}
+use Rattle.vault_promise.specs.Told.{AllDone, AreHeard, AreRead, IsNext, IsQuiet, IsSaid, SaysTurns, Tells}
+use Rattle.vault_promise.specs.Told.{streams_of}
 
 -- Of whatever runs there are, from bytes that are of a sound vault: they come to something of which this
 -- holds.
@@ -81,14 +78,6 @@ abbrev pub NumbersStayApart : Type 0
 NumbersStayApart = OfAnyRuns (λ V rs end come.
     NeverShared V (history V None rs end come) × NonePasses V (history V None rs end come))
 
--- ---- tokens yield to those entitled
-
--- On the way of any runs, at each place, a live token yields its number to a caller that is entitled, while
--- the merchant's count is below its limit.
-abbrev pub TokensYield : Type 0
-TokensYield = OfAnyRuns (λ V rs end come.
-    (first more : Steps) → history V None rs end come ≡ first ++ more → LiveTokensYieldIn (last V first))
-
 -- ---- what went out, and what is true of each command that it tells of
 
 -- of each command that these ask for this is true, at the vault that those before it leave
@@ -116,42 +105,80 @@ pub record LinesTell (tells : Turns) (now : Option ℕ) (digits : Option (List �
   pub went : Appends s.sent_old s.sent_new (take sent (first_line ++ lines W rows))
   pub each : EachAsked W rows Is
 
--- what went out of connections: the texts of each, from the vault that the turns before it leave
+-- what went out of connections: the texts of each, from the vault that the turns before it leave; and what was
+-- said between two of them
 abbrev pub TurnsTell : Turns → Content → List Turn → (Content → Command → Type 0) → Type 0
 TurnsTell tells W [] Is = Unit {0}
 TurnsTell tells W (Lost ∷ ts) Is = TurnsTell tells W ts Is
 TurnsTell tells W (Served x ∷ ts) Is = (it : TextsTell tells None None W (streams_of x) Is)
     × TurnsTell tells (vault_after W it.exchanges) ts Is
-TurnsTell tells W (Attended cs news ∷ ts) Is = TurnsTell tells (run cs W) ts Is
+TurnsTell tells W (Attended cs news ∷ ts) Is = IsSaid news W cs × TurnsTell tells (run cs W) ts Is
 
--- What went out of a task. The rows of a batch ask for its asker alone. A line of a task that isn't asked
--- message by message says that all is done; no connection is answered before what the lists ask for is done;
--- a sweep purges dead tokens alone; and of a list, it is the text of the vault.
-abbrev pub WentOut : Turns → Task → Content → List Command → Streams → (Content → Command → Type 0) → Type 0
-WentOut tells (Batch who now digits) W cs s Is =
-    (it : LinesTell tells now digits W s Is) × All (Asks who) it.rows
-WentOut tells (Pipe now digits) W cs s Is = TextsTell tells now digits W s Is
-WentOut tells (Serve service) W cs s Is =
+-- What went out of a task, to the byte. The rows of a batch ask for its asker alone. Of a service nothing goes
+-- out, and no connection is answered, before what its lists ask for is done; then the line that says where it
+-- listens does, and those of what was done between connections. Of other tasks it is their line, which says
+-- that all is done, or their text.
+abbrev pub WentOut : Outside → Shape → Content → List Command → Streams → (Content → Command → Type 0)
+    → Type 0
+WentOut at (Rows who now digits) W cs s Is =
+    (it : LinesTell at.tells now digits W s Is) × All (Asks who) it.rows
+WentOut at (Messages now digits) W cs s Is = TextsTell at.tells now digits W s Is
+WentOut at (Connections service) W cs s Is =
     (let first = begin_of service.lists W in
-    (s.turns ≡ []) ⊎ AreDone (length first) first W × TurnsTell tells (run first W) s.turns Is)
-WentOut tells (Sweep who now giver) W cs s Is = (IsQuiet s ⊎ AllDone (Sweep who now giver) W cs)
-    × ((tokens : List Bytes) × (cs ≡ purges_at who now tokens) × AreSwept who now tokens W
-    × ((tokens ≡ []) ⊎ MaySweep giver W who.merchant now))
-WentOut tells (Show it) W cs s Is =
-    (cs ≡ []) × ((sent : ℕ) × Appends s.sent_old s.sent_new (take sent (shown_text it W)))
-WentOut tells (Change c) W cs s Is = (IsQuiet s ⊎ AllDone (Change c) W cs) × AreFirst cs (c ∷ [])
-WentOut tells (Give rights now) W cs s Is =
-    (IsQuiet s ⊎ AllDone (Give rights now) W cs) × AreFirst cs (grants_at now rights.items)
-WentOut tells (Settle rights now) W cs s Is = (IsQuiet s ⊎ AllDone (Settle rights now) W cs)
-    × AreFirst cs (changes_at true now rights.items (rights_of W))
-WentOut tells (SetMerchants rows now) W cs s Is = (IsQuiet s ⊎ AllDone (SetMerchants rows now) W cs)
-    × AreFirst cs (settings_at now rows.items (merchant_rows W))
+    (s.turns ≡ []) × IsQuiet s
+    ⊎ AreDone (length first) first W × SaysTurns service.port s × TurnsTell at.tells (run first W) s.turns Is)
+WentOut at shape W cs s Is = Tells at shape W cs s
 
 -- of each command that a run answered this is true, at the vault that those before it leave
 abbrev pub EachAnswered : {V : Content} {c : Option Command} {r : Run} → Work V c r
     → (Content → Command → Type 0) → Type 0
 EachAnswered w Is = (first more : List Command) (x : Command) → w.answered ≡ first ++ x ∷ more
     → Is (run first w.opened) x
+
+-- ---- tokens yield to those entitled
+
+-- live tokens yield where the command is answered
+abbrev pub YieldsAt : Content → Command → Type 0
+YieldsAt W x = LiveTokensYieldIn W
+
+-- A message that asks for the number of a live token, of a caller to whom it is due, is answered by the text
+-- with that number, while the merchant's count is below its limit.
+abbrev pub TextsYield : Content → List (Asked Parts) → Type 0
+TextsYield W xs = (first more : List (Asked Parts)) (x : Asked Parts) (caller m token : Bytes) (now : ℕ)
+    (number : Bytes) → xs ≡ first ++ x ∷ more → x.wanted ≡ Ok (Redeem caller m token now)
+    → IsDue (vault_after W first) caller m token now number → given_by (vault_after W first) m < MOST_COUNT
+    → text_at answer_for (vault_after W first) x ≡ number_text number (closes x.unit)
+
+-- so those of connections
+abbrev pub TurnsYield : (tells : Turns) (W : Content) (ts : List Turn)
+    → TurnsTell tells W ts YieldsAt → Type 0
+TurnsYield tells W [] all = Unit {0}
+TurnsYield tells W (Lost ∷ ts) all = TurnsYield tells W ts all
+TurnsYield tells W (Served x ∷ ts) (it, all) =
+    TextsYield W it.exchanges × TurnsYield tells (vault_after W it.exchanges) ts all
+TurnsYield tells W (Attended cs news ∷ ts) (said, all) = TurnsYield tells (run cs W) ts all
+
+abbrev pub OutYields : (at : Outside) (shape : Shape) (W : Content) (cs : List Command) (s : Streams)
+    → WentOut at shape W cs s YieldsAt → Type 0
+OutYields at (Messages now digits) W cs s it = TextsYield W it.exchanges
+OutYields at (Connections service) W cs s (inl none) = Unit {0}
+OutYields at (Connections service) W cs s (inr (done, said, it)) =
+    TurnsYield at.tells (run (begin_of service.lists W) W) s.turns it
+OutYields at shape W cs s it = Unit {0}
+
+-- and so what went out of a run
+abbrev pub Yields : OfRun
+Yields V c r (inl w) rs end more =
+    (it : WentOut (outside_of r) (shape_of w.task w.opened) w.opened w.answered r.streams YieldsAt)
+    × OutYields (outside_of r) (shape_of w.task w.opened) w.opened w.answered r.streams it
+Yields V c r (inr rests) rs end more = Unit {0}
+
+-- On the way of any runs, at each place, a live token yields its number to a caller that is entitled, while
+-- the merchant's count is below its limit. And who asks for it by a message is answered by a text with it.
+abbrev pub TokensYield : Type 0
+TokensYield = OfAnyRuns (λ V rs end come. ((first more : Steps)
+    → history V None rs end come ≡ first ++ more → LiveTokensYieldIn (last V first))
+    × Each Yields V None rs end come)
 
 -- ---- numbers go to nobody else
 
@@ -182,34 +209,35 @@ AreDueTurns tells W [] all = Unit {0}
 AreDueTurns tells W (Lost ∷ ts) all = AreDueTurns tells W ts all
 AreDueTurns tells W (Served x ∷ ts) (it, all) =
     AreDueTexts tells None None W (streams_of x) it × AreDueTurns tells (vault_after W it.exchanges) ts all
-AreDueTurns tells W (Attended cs news ∷ ts) all = AreDueTurns tells (run cs W) ts all
+AreDueTurns tells W (Attended cs news ∷ ts) (said, all) = AreDueTurns tells (run cs W) ts all
 
-abbrev pub AreDue : (tells : Turns) (t : Task) (W : Content) (cs : List Command) (s : Streams)
-    → WentOut tells t W cs s GivesDue → Type 0
-AreDue tells (Batch who now digits) W cs s (it, asked) =
+abbrev pub AreDue : (at : Outside) (shape : Shape) (W : Content) (cs : List Command) (s : Streams)
+    → WentOut at shape W cs s GivesDue → Type 0
+AreDue at (Rows who now digits) W cs s (it, asked) =
     EachAsked W it.rows (λ U x. (number : Bytes) → ¬ (reply U x ≡ Number number))
-AreDue tells (Pipe now digits) W cs s it = AreDueTexts tells now digits W s it
-AreDue tells (Serve service) W cs s (inl none) = Unit {0}
-AreDue tells (Serve service) W cs s (inr (done, it)) =
-    AreDueTurns tells (run (begin_of service.lists W) W) s.turns it
-AreDue tells t W cs s it = Unit {0}
+AreDue at (Messages now digits) W cs s it = AreDueTexts at.tells now digits W s it
+AreDue at (Connections service) W cs s (inl none) = Unit {0}
+AreDue at (Connections service) W cs s (inr (done, said, it)) =
+    AreDueTurns at.tells (run (begin_of service.lists W) W) s.turns it
+AreDue at shape W cs s it = Unit {0}
 
-abbrev pub NoneElse : (V : Content) (c : Option Command) (rs : List Run) (end : Image) → Come V c rs end
-    → Type 0
-NoneElse V c [] end come = Unit {0}
-NoneElse V c (r ∷ rs) end (inl w, more) = EachAnswered w GivesDue
-    × ((it : WentOut (told_by r.moments) w.task w.opened w.answered r.streams GivesDue)
-    × AreDue (told_by r.moments) w.task w.opened w.answered r.streams it)
-    × NoneElse (run w.answered w.opened) w.undecided rs end more
-NoneElse V c (r ∷ rs) end (inr rests, more) =
-    (IsQuiet r.streams ⊎ (AsksHelp r.words ⊎ AsksFor r.words IsAside)) × NoneElse V c rs end more
+-- what a run gave and what it told, to the byte
+abbrev pub TellsDue : OfRun
+TellsDue V c r (inl w) rs end more = EachAnswered w GivesDue
+    × ((it : WentOut (outside_of r) (shape_of w.task w.opened) w.opened w.answered r.streams GivesDue)
+    × AreDue (outside_of r) (shape_of w.task w.opened) w.opened w.answered r.streams it)
+    × EndsSaid r
+TellsDue V c r (inr rests) rs end more =
+    (IsQuiet r.streams ⊎ (AsksHelp r.words ⊎ IsAsideRun r)) × EndsSaid r
 
 -- A number that a run gave, or that it told, was asked for, of a live token, by a caller that was entitled,
 -- at a moment that the words fix, or that was told for the message that asks.
--- The lines of a batch tell none; and of a run that rests nothing goes out but help, if it is no trial, check
--- or move.
+-- What else goes out is named to the byte: the lines of a batch, which tell none; the line of a task, those of a
+-- service, a listing, and what is said of how a run ended, on the errors too. Of a run that rests it is help;
+-- or the line of a check or a move, or the texts of a trial, of a vault of its own. A line of what was done
+-- between two connections says counts of it, and any moment, number of a refusal or merchant's name.
 abbrev pub NumbersGoToNobodyElse : Type 0
-NumbersGoToNobodyElse = OfAnyRuns (λ V rs end come. NoneElse V None rs end come)
+NumbersGoToNobodyElse = OfAnyRuns (λ V rs end come. Each TellsDue V None rs end come)
 
 -- ---- moments are told
 
@@ -229,30 +257,27 @@ TurnsTold tells W [] all = Unit {0}
 TurnsTold tells W (Lost ∷ ts) all = TurnsTold tells W ts all
 TurnsTold tells W (Served x ∷ ts) (it, all) =
     EachTold tells None it.exchanges × TurnsTold tells (vault_after W it.exchanges) ts all
-TurnsTold tells W (Attended cs news ∷ ts) all = TurnsTold tells (run cs W) ts all
+TurnsTold tells W (Attended cs news ∷ ts) (said, all) = TurnsTold tells (run cs W) ts all
 
-abbrev pub TaskTold : (tells : Turns) (t : Task) (W : Content) (cs : List Command) (s : Streams)
-    → WentOut tells t W cs s IsAnything → Type 0
-TaskTold tells (Batch who now digits) W cs s (it, asked) = EachTold tells now it.rows
-TaskTold tells (Pipe now digits) W cs s it = EachTold tells now it.exchanges
-TaskTold tells (Serve service) W cs s (inl none) = Unit {0}
-TaskTold tells (Serve service) W cs s (inr (done, it)) =
-    TurnsTold tells (run (begin_of service.lists W) W) s.turns it
-TaskTold tells t W cs s it = Unit {0}
+abbrev pub TaskTold : (at : Outside) (shape : Shape) (W : Content) (cs : List Command) (s : Streams)
+    → WentOut at shape W cs s IsAnything → Type 0
+TaskTold at (Rows who now digits) W cs s (it, asked) = EachTold at.tells now it.rows
+TaskTold at (Messages now digits) W cs s it = EachTold at.tells now it.exchanges
+TaskTold at (Connections service) W cs s (inl none) = Unit {0}
+TaskTold at (Connections service) W cs s (inr (done, said, it)) =
+    TurnsTold at.tells (run (begin_of service.lists W) W) s.turns it
+TaskTold at shape W cs s it = Unit {0}
 
-abbrev pub AllTold : (V : Content) (c : Option Command) (rs : List Run) (end : Image) → Come V c rs end
-    → Type 0
-AllTold V c [] end come = Unit {0}
-AllTold V c (r ∷ rs) end (inl w, more) = AsksFor r.words (λ job. IsTaskOf (at_moments r.moments) job w.task)
-    × ((it : WentOut (told_by r.moments) w.task w.opened w.answered r.streams IsAnything)
-    × TaskTold (told_by r.moments) w.task w.opened w.answered r.streams it)
-    × AllTold (run w.answered w.opened) w.undecided rs end more
-AllTold V c (r ∷ rs) end (inr rests, more) = AllTold V c rs end more
+abbrev pub IsTimely : OfRun
+IsTimely V c r (inl w) rs end more = AsksFor r.words (λ job. IsTaskOf (around r) job w.task)
+    × ((it : WentOut (outside_of r) (shape_of w.task w.opened) w.opened w.answered r.streams IsAnything)
+    × TaskTold (outside_of r) (shape_of w.task w.opened) w.opened w.answered r.streams it)
+IsTimely V c r (inr rests) rs end more = Unit {0}
 
 -- A run that works does the task that its words ask for, at a moment that they fix, or else at one that its
 -- clock told. So it answers each message and each row: at a moment that was told for it alone.
 abbrev pub MomentsAreTold : Type 0
-MomentsAreTold = OfAnyRuns (λ V rs end come. AllTold V None rs end come)
+MomentsAreTold = OfAnyRuns (λ V rs end come. Each IsTimely V None rs end come)
 
 -- ---- each is counted
 
@@ -307,62 +332,56 @@ RequestsAnswerOnceEver = OfAnyRuns (λ V rs end come. (first : Steps) → IsHist
 abbrev pub LeadsTo : Content → Content → Type 0
 LeadsTo U X = (cs : List Command) × AllProper cs × (X ≡ run cs U)
 
--- Each run that works opens a vault that comes from this one, and its bytes hold it; and so does the vault
--- come of which the last bytes are.
+-- Whoever opens the bytes of a run finds what those before it leave, with their undecided command or without.
+-- If it works, it opens a vault that comes from this one, and the bytes hold it. So does the vault come that
+-- is found in the last bytes.
 abbrev pub IsKept : Content → (V : Content) (c : Option Command) (rs : List Run) (end : Image)
     → Come V c rs end → Type 0
 IsKept U V c [] end come = LeadsTo U V × AreOf end V c
-IsKept U V c (r ∷ rs) end (inl w, more) = LeadsTo U w.opened × Bear r.begins w.opened
+IsKept U V c (r ∷ rs) end (inl w, more) = AreOf r.begins V c × LeadsTo U w.opened × Bear r.begins w.opened
     × IsKept U (run w.answered w.opened) w.undecided rs end more
-IsKept U V c (r ∷ rs) end (inr rests, more) = IsKept U V c rs end more
+IsKept U V c (r ∷ rs) end (inr rests, more) = AreOf r.begins V c × IsKept U V c rs end more
 
 -- so the vault after each command that a run answered, and of which anything went out
-abbrev pub Kept : (V : Content) (c : Option Command) (rs : List Run) (end : Image) → Come V c rs end → Type 0
-Kept V c [] end come = Unit {0}
-Kept V c (r ∷ rs) end (inl w, more) =
+abbrev pub AnswersStay : OfRun
+AnswersStay V c r (inl w) rs end more =
     EachAnswered w (λ W x. IsKept (after W x) (run w.answered w.opened) w.undecided rs end more)
-    × WentOut (told_by r.moments) w.task w.opened w.answered r.streams
+    × WentOut (outside_of r) (shape_of w.task w.opened) w.opened w.answered r.streams
     (λ W x. IsKept (after W x) (run w.answered w.opened) w.undecided rs end more)
-    × Kept (run w.answered w.opened) w.undecided rs end more
-Kept V c (r ∷ rs) end (inr rests, more) = Kept V c rs end more
+AnswersStay V c r (inr rests) rs end more = Unit {0}
 
 -- What went out of a run tells of commands that it answered, and the vault after each of them is the one
 -- that every later run opens, with what came behind it.
 abbrev pub AnswersAreKept : Type 0
-AnswersAreKept = OfAnyRuns (λ V rs end come. Kept V None rs end come)
+AnswersAreKept = OfAnyRuns (λ V rs end come. Each AnswersStay V None rs end come)
 
 -- ---- what is done is done whole
 
--- the words ask for a task on a vault
-abbrev pub AsksTask : List Text → Type 0
-AsksTask words = AsksFor words (λ job. (t : Task) × IsTaskOf anything job t)
-
 -- A run that ended done and worked did its task whole. One that ended done and rests gave help, or it is a
 -- trial, a check or a move: its words ask for no task.
-abbrev pub DidWhole : (V : Content) (c : Option Command) (rs : List Run) (end : Image) → Come V c rs end
-    → Type 0
-DidWhole V c [] end come = Unit {0}
-DidWhole V c (r ∷ rs) end (inl w, more) = (IsDone r.ending → AllDone w.task w.opened w.answered)
-    × DidWhole (run w.answered w.opened) w.undecided rs end more
-DidWhole V c (r ∷ rs) end (inr rests, more) = (IsDone r.ending → AsksHelp r.words ⊎ AsksFor r.words IsAside)
-    × (IsDone r.ending → ¬ (AsksTask r.words)) × DidWhole V c rs end more
+abbrev pub DidWhole : OfRun
+DidWhole V c r (inl w) rs end more =
+    IsDone r.ending → AllDone (outside_of r) (shape_of w.task w.opened) w.opened w.answered r.streams
+DidWhole V c r (inr rests) rs end more =
+    IsDone r.ending → (AsksHelp r.words ⊎ AsksFor r.words IsAside) × ¬ (AsksTask r.words)
 
 abbrev pub DoneIsDone : Type 0
-DoneIsDone = OfAnyRuns (λ V rs end come. DidWhole V None rs end come)
+DoneIsDone = OfAnyRuns (λ V rs end come. Each DidWhole V None rs end come)
 
 -- ---- changes are whole
 
 -- The vault that a run opens is the one that those before it leave, or the one after the command that was
--- undecided: that was asked for, and is done whole or not at all, and the bytes say which.
+-- undecided: that was asked for, and is done whole or not at all. Whoever opens the bytes of a run, or the
+-- last ones, finds one of the two; and those of a run that works hold the one that it opens.
 abbrev pub AreWhole : (Command → Type 0) → (V : Content) (c : Option Command) (rs : List Run) (end : Image)
     → Come V c rs end → Type 0
-AreWhole WasAsked V c [] end come = Unit {0}
-AreWhole WasAsked V c (r ∷ rs) end (inl w, more) =
-    ((w.opened ≡ V) ⊎ (x : Command) × (c ≡ Some x) × WasAsked x × (w.opened ≡ after V x))
+AreWhole WasAsked V c [] end come = IfSome c WasAsked × AreOf end V c
+AreWhole WasAsked V c (r ∷ rs) end (inl w, more) = AreOf r.begins V c
+    × ((w.opened ≡ V) ⊎ (x : Command) × (c ≡ Some x) × WasAsked x × (w.opened ≡ after V x))
     × Bear r.begins w.opened
-    × AreWhole (IsNext (told_by r.moments) w.task w.opened w.answered r.streams) (run w.answered w.opened)
-    w.undecided rs end more
-AreWhole WasAsked V c (r ∷ rs) end (inr rests, more) = AreWhole WasAsked V c rs end more
+    × AreWhole (IsNext (outside_of r) (shape_of w.task w.opened) w.opened w.answered r.streams)
+    (run w.answered w.opened) w.undecided rs end more
+AreWhole WasAsked V c (r ∷ rs) end (inr rests, more) = AreOf r.begins V c × AreWhole WasAsked V c rs end more
 
 abbrev pub ChangesAreWhole : Type 0
 ChangesAreWhole = OfAnyRuns (λ V rs end come. AreWhole (λ x. ⊥) V None rs end come)
@@ -386,16 +405,20 @@ StopsAreSpared = OfAnyRuns (λ V rs end come. AllSpared (AreNew (before rs end) 
 
 -- A run that moves doesn't work. Each that rests, as a move does, leaves the vault as it was, with whatever
 -- bytes the next one begins: in some schema, and one that moves and is done leaves it in the newest.
-abbrev pub MovesKeep : (V : Content) (c : Option Command) (rs : List Run) (end : Image) → Come V c rs end
-    → Type 0
-MovesKeep V c [] end come = Unit {0}
-MovesKeep V c (r ∷ rs) end (inl w, more) =
-    (¬ (AsksMove r.words)) × MovesKeep (run w.answered w.opened) w.undecided rs end more
-MovesKeep V c (r ∷ rs) end (inr rests, more) = AreOf (before rs end) V c
-    × (IsDone r.ending × AsksMove r.words → AreNew (before rs end) V c) × MovesKeep V c rs end more
+abbrev pub MovesKeep : OfRun
+MovesKeep V c r (inl w) rs end more = ¬ (AsksMove r.words)
+MovesKeep V c r (inr rests) rs end more = AreOf (before rs end) V c
+    × (IsDone r.ending × AsksMove r.words → AreNew (before rs end) V c)
 
 abbrev pub MovesKeepTheVault : Type 0
-MovesKeepTheVault = OfAnyRuns (λ V rs end come. MovesKeep V None rs end come)
+MovesKeepTheVault = OfAnyRuns (λ V rs end come. Each MovesKeep V None rs end come)
+
+-- ---- rights follow their list
+
+-- Rights that runs make by a list are exactly those of a text that its file had: before the run, or at two looks
+-- of a service, one after the other.
+abbrev pub RightsFollowTheirList : Type 0
+RightsFollowTheirList = OfAnyRuns (λ V rs end come. Each FollowsIts V None rs end come)
 
 -- ---- all of them together
 
@@ -405,16 +428,18 @@ pub record Together (V : Content) (rs : List Run) (end : Image) (come : Come V N
   pub checked : NonePasses V (history V None rs end come)
   pub yields : (first more : Steps) → history V None rs end come ≡ first ++ more
       → LiveTokensYieldIn (last V first)
-  pub nobody_else : NoneElse V None rs end come
-  pub told : AllTold V None rs end come
+  pub yielded : Each Yields V None rs end come
+  pub nobody_else : Each TellsDue V None rs end come
+  pub told : Each IsTimely V None rs end come
   pub counted : (m : Bytes) → given_by V m + given_in m V None rs end come
       ≤ given_by (left_by V None rs end come) m
   pub stand : Stand V None rs end come
-  pub kept : Kept V None rs end come
+  pub kept : Each AnswersStay V None rs end come
   pub whole : AreWhole (λ x. ⊥) V None rs end come
   pub spared : AllSpared (AreNew (before rs end) V None) V None rs end come
-  pub moves : MovesKeep V None rs end come
-  pub done : DidWhole V None rs end come
+  pub moves : Each MovesKeep V None rs end come
+  pub done : Each DidWhole V None rs end come
+  pub rights : Each FollowsIts V None rs end come
 
 abbrev pub SentencesHoldTogether : Type 0
 SentencesHoldTogether = OfAnyRuns (λ V rs end come. Together V rs end come)

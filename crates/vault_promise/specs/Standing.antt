@@ -25,10 +25,11 @@ use Rattle.vault_listen.specs.Live.{Turns}
 use Rattle.vault_live.specs.Turns.{Turn}
 use Rattle.vault_live.specs.Turns.Turn.{Lost, Served, Attended}
 use Rattle.vault_jobs.specs.Lists.{begin_of}
+use Rattle.vault_jobs.specs.Outside.{Outside}
 use Rattle.vault_jobs.specs.Streams.{Streams}
-use Rattle.vault_jobs.specs.declared.task.Task.{Task}
-use Rattle.vault_jobs.specs.declared.task.Task.TheVariants.{Batch, Pipe, Serve}
-use Rattle.vault_promise.specs.Runs.{AreOf, Come, Run, Runs, Work, before, told_by}
+use Rattle.vault_promise.specs.Runs.{AreOf, Come, Run, Runs, Work, before, outside_of}
+use Rattle.vault_promise.specs.Shapes.{Shape, shape_of}
+use Rattle.vault_promise.specs.Shapes.Shape.{Rows, Messages, Connections}
 use Rattle.vault_promise.specs.Told.{AreHeard, AreRead, streams_of}
 
 -- which commands are answered, and by which replies
@@ -90,19 +91,19 @@ TurnsStand tells W (Served x ∷ ts) Later = (it : TextsStand tells None None W 
 TurnsStand tells W (Attended cs news ∷ ts) Later = TurnsStand tells (run cs W) ts Later
 
 -- so of a run that answered the messages or the rows of its input, or those of connections
-abbrev pub TellsStanding : Turns → Task → Content → Streams → Replies → Type 0
-TellsStanding tells (Batch who now digits) W s Later = LinesStand tells now digits W s Later
-TellsStanding tells (Pipe now digits) W s Later = TextsStand tells now digits W s Later
-TellsStanding tells (Serve service) W s Later =
-    TurnsStand tells (run (begin_of service.lists W) W) s.turns Later
-TellsStanding tells task W s Later = Unit {0}
+abbrev pub TellsStanding : Outside → Shape → Content → Streams → Replies → Type 0
+TellsStanding at (Rows who now digits) W s Later = LinesStand at.tells now digits W s Later
+TellsStanding at (Messages now digits) W s Later = TextsStand at.tells now digits W s Later
+TellsStanding at (Connections service) W s Later =
+    TurnsStand at.tells (run (begin_of service.lists W) W) s.turns Later
+TellsStanding at shape W s Later = Unit {0}
 
 -- and of each of the runs, with those after it
 abbrev pub Stand : (V : Content) (c : Option Command) (rs : List Run) (end : Image) → Come V c rs end → Type 0
 Stand V c [] end come = Unit {0}
 Stand V c (r ∷ rs) end (inl w, more) =
     TokensStand (Answers w) (AnsweredIn (run w.answered w.opened) w.undecided rs end more)
-    × TellsStanding (told_by r.moments) w.task w.opened r.streams
+    × TellsStanding (outside_of r) (shape_of w.task w.opened) w.opened r.streams
     (AnsweredIn (run w.answered w.opened) w.undecided rs end more)
     × Stand (run w.answered w.opened) w.undecided rs end more
 Stand V c (r ∷ rs) end (inr rests, more) = Stand V c rs end more

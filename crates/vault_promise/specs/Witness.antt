@@ -11,7 +11,7 @@ use Rattle.vault_live.specs.Turns.{TellsTurns, Turn}
 use Rattle.vault_wire.specs.declared.watched.Watched.{Watched}
 use Rattle.vault_jobs.specs.Streams.{Known, seen_over, seen_with, streams, with_turns}
 use Rattle.vault_app.specs.World.{World}
-use Rattle.vault_promise.specs.Runs.{IsFound, IsRun, Leaves, Moments, Run, TellsOnly}
+use Rattle.vault_promise.specs.Runs.{IsFound, IsRun, Leaves, Moments, Run, TellsOnly, Texts, last_of}
 
 -- How that is read which a call works with: its disk, its network, its input, its output and its errors.
 pub record Views (D N R W E : Type 0) : Type 1 where
@@ -69,8 +69,8 @@ call_ended status MayBeLeft network input output errors = record {
   errors = errors;
 }
 
--- The run is what a call that began and ended with these did by the clause of `run`. Its clock tells no other
--- moments than the run's. Its file held the bytes with which the run begins, and what may be left now may be
+-- The run is what a call that began and ended with these did by the clause of `run`. Its world tells no other
+-- moments and texts than the run's. Its file held the bytes with which the run begins, and what may be left now may be
 -- left of the files that it left. It ended with its status, and the network told its turns.
 pub record IsCallOf {D N R W E : Type 0} (how : Views D N R W E) (old : CallBegun N R W E)
     (new : CallEnded N R W E) (r : Run) : Type 0 where
@@ -86,17 +86,19 @@ pub record IsCallOf {D N R W E : Type 0} (how : Views D N R W E) (old : CallBegu
     words = old.words;
     moments = r.moments;
     ending = does.ending;
+    texts = r.texts;
     streams = with_turns (streams how.remaining old.input new.input how.contents old.output told) turns;
+    last = last_of how.contents new.output how.said old.errors new.errors;
   }
-  pub tells : TellsOnly old.world.tells r.moments
+  pub tells : TellsOnly old.world r.moments r.texts
   pub found : IsFound old.words (λ path. old.world.holds path r.begins)
   pub leaves : (next : Image) → new.MayBeLeft next → Leaves r.begins left next
 
 -- Where the file at the path of the words holds these bytes, the call is a run from them up to whatever may
--- be left, with whatever moments its clock tells.
+-- be left, with whatever moments and texts its world tells.
 abbrev pub IsRunFrom : {D N R W E : Type 0} → Image → Views D N R W E → CallBegun N R W E
     → CallEnded N R W E → Type 0
-IsRunFrom image how old new = (moments : Moments) → TellsOnly old.world.tells moments
+IsRunFrom image how old new = (moments : Moments) (texts : Texts) → TellsOnly old.world moments texts
     → IsFound old.words (λ path. old.world.holds path image)
-    → (r : Run) × (r.begins ≡ image) × (r.moments ≡ moments) × IsCallOf how old new r
+    → (r : Run) × (r.begins ≡ image) × (r.moments ≡ moments) × (r.texts ≡ texts) × IsCallOf how old new r
     × ((next : Image) → new.MayBeLeft next → IsRun r next)

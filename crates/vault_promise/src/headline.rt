@@ -5,11 +5,11 @@ ghost use Rattle.vault_promise.specs.OpenedSound.{FilesOpenSound};
 ghost use Rattle.vault_promise.specs.Sentences.{AnswersAreKept, ChangesAreWhole, CountsAreWithin, DoneIsDone};
 ghost use Rattle.vault_promise.specs.Sentences.{MomentsAreTold, MovesKeepTheVault, NumbersAreCounted};
 ghost use Rattle.vault_promise.specs.Sentences.{NumbersGoToNobodyElse, NumbersStayApart};
-ghost use Rattle.vault_promise.specs.Sentences.{RequestsAnswerOnceEver, StopsAreSpared};
+ghost use Rattle.vault_promise.specs.Sentences.{RequestsAnswerOnceEver, RightsFollowTheirList, StopsAreSpared};
 ghost use Rattle.vault_promise.specs.Sentences.{SentencesHoldTogether, TokensYield};
 
-use crate::laws::{each_is_due, faults_tell_no_number, only_due_is_given};
-use crate::promise_is_kept;
+use crate::laws::{each_is_due, faults_tell_no_number, only_due_is_given, texts_tell_numbers};
+use crate::{promise_is_kept, rights_become_exact};
 use std::io::{Read, Write};
 use vault_file::paths::Paths;
 use vault_listen::time::Timekeeper;
@@ -24,7 +24,8 @@ pub fn numbers_stay_apart<P: Paths, K: Timekeeper, D: Desk, R: Read, W: Write, E
     promise_is_kept::<P, K, D, R, W, E>()
 }
 
-/// A live token yields its number to a caller that is entitled, at each place on the way of runs.
+/// A live token yields its number to a caller that is entitled, at each place on the way of runs; and a message
+/// that asks for it is answered by a text with it.
 pub fn tokens_yield_to_those_entitled<
     P: Paths,
     K: Timekeeper,
@@ -35,6 +36,7 @@ pub fn tokens_yield_to_those_entitled<
 >()
     ensures { TokensYield }
 {
+    texts_tell_numbers();
     promise_is_kept::<P, K, D, R, W, E>()
 }
 
@@ -102,13 +104,24 @@ pub fn moves_keep_the_vault<P: Paths, K: Timekeeper, D: Desk, R: Read, W: Write,
     promise_is_kept::<P, K, D, R, W, E>()
 }
 
+/// Rights that a run makes by a list are exactly those of a text that its file had: before the run, or at two
+/// looks of a service, one after the other.
+pub fn rights_follow_their_list<P: Paths, K: Timekeeper, D: Desk, R: Read, W: Write, E: Write>()
+    ensures { RightsFollowTheirList }
+{
+    rights_become_exact();
+    promise_is_kept::<P, K, D, R, W, E>()
+}
+
 /// A file is opened only where its rows are those of a sound vault, or where it has no table.
 ///
-/// It is a law of `run`, whatever the bytes are: those above are of runs from a sound vault on.
+/// It is of any run, whatever the bytes are: those above are of runs from a sound vault on.
 pub fn files_open_where_sound<P: Paths, K: Timekeeper, D: Desk, R: Read, W: Write, E: Write>()
     ensures { FilesOpenSound P.Disk.Disk R.remaining W.contents E.contents
         (λ (time : K) (desk : D) (paths : P). world_at P.Paths (K.tells time) (D.says desk) paths) }
-{}
+{
+    promise_is_kept::<P, K, D, R, W, E>()
+}
 
 /// Where the vault was once empty, a merchant's count lies between the numbers answered since then and those
 /// that may have been given.
@@ -136,5 +149,7 @@ pub fn sentences_hold_together<P: Paths, K: Timekeeper, D: Desk, R: Read, W: Wri
     only_due_is_given();
     each_is_due();
     faults_tell_no_number();
+    texts_tell_numbers();
+    rights_become_exact();
     promise_is_kept::<P, K, D, R, W, E>()
 }

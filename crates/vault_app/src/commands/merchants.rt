@@ -4,7 +4,7 @@ ghost use Rattle.vault_words.specs.declared.jobs.Job.{Job};
 ghost use Rattle.vault_app.specs.World.{said};
 ghost use Rattle.vault_app.specs.Plans.{ComesToTask};
 ghost use Rattle.vault_app.specs.Commands.Merchants.{merchants_task};
-ghost use Rattle.vault_app.specs.Merchants.{AreMerchantsIn, AreMerchantsOf, EndsWithoutMerchants};
+ghost use Rattle.vault_app.specs.Merchants.{AreMerchantsOf, EndsWithoutMerchants};
 ghost use Rattle.vault_app.specs.TaskValues.{AreValues};
 
 use crate::ending::Ending;
@@ -20,15 +20,11 @@ use vault_merchants::fault::MerchantsFault;
 use vault_merchants::read::{ListedMerchant, read_merchants};
 use vault_words::commands::merchants::MerchantsJob;
 
-/// The text of a file and the merchants that it lists, or how the job ends without them: refused by 70, 72,
-/// 73 or 76, or stopped by 74 or, where the file can't be read, by 80.
-pub(crate) fn read_text<P: Paths>(
-    rt: &HostRuntime,
-    paths: &P,
-    path: &str,
-) -> Result<(Vec<u8>, Vec<ListedMerchant>), Ending>
-    // with Ok, the rows are the merchants that this text of the file has, in order
-    ensures listed { IfOk result (λ it. AreMerchantsIn (P.says paths.now path.now) it.0.items it.1.items) }
+/// The merchants that a file lists, or how the job ends without them: refused by 70, 72, 73 or 76, or stopped
+/// by 74 or, where the file can't be read, by 80.
+fn read<P: Paths>(rt: &HostRuntime, paths: &P, path: &str) -> Result<Vec<ListedMerchant>, Ending>
+    // with Ok, the rows are the merchants that a text of the file has, in order
+    ensures listed { IfOk result (λ rows. AreMerchantsOf (P.says paths.now path.now) rows.items) }
     // with Err, it ends by the refusal of a text of the file, or by a stop, since no text was read
     ensures unlisted { IfErr result (EndsWithoutMerchants (P.says paths.now path.now)) }
 {
@@ -37,24 +33,11 @@ pub(crate) fn read_text<P: Paths>(
         Err(error) => return Err(Ending::Stopped(Stop::Rights(error.kind()))),
     };
     match read_merchants(rt.alloc(), &text) {
-        Ok(rows) => Ok((text, rows)),
+        Ok(rows) => Ok(rows),
         Err(MerchantsFault::Memory) => {
             Err(Ending::Stopped(Stop::Rights(ErrorKind::OutOfMemory)))
         }
         Err(fault) => Err(Ending::Refused(fault.refusal().number())),
-    }
-}
-
-/// The merchants that a file lists, or how the job ends without them.
-fn read<P: Paths>(rt: &HostRuntime, paths: &P, path: &str) -> Result<Vec<ListedMerchant>, Ending>
-    // with Ok, the rows are the merchants that a text of the file has, in order
-    ensures listed { IfOk result (λ rows. AreMerchantsOf (P.says paths.now path.now) rows.items) }
-    // with Err, it ends by the refusal of a text of the file, or by a stop, since no text was read
-    ensures unlisted { IfErr result (EndsWithoutMerchants (P.says paths.now path.now)) }
-{
-    match read_text(rt, paths, path) {
-        Ok((_, rows)) => Ok(rows),
-        Err(ending) => Err(ending),
     }
 }
 

@@ -4,7 +4,7 @@ ghost use Rattle.vault_words.specs.declared.jobs.Job.{Job};
 ghost use Rattle.vault_app.specs.World.{said};
 ghost use Rattle.vault_app.specs.Plans.{ComesToTask};
 ghost use Rattle.vault_app.specs.Commands.RightsFile.{rights_task};
-ghost use Rattle.vault_app.specs.Rights.{IsListed, IsListedIn, IsUnlisted};
+ghost use Rattle.vault_app.specs.Rights.{IsListed, IsUnlisted};
 ghost use Rattle.vault_app.specs.TaskValues.{AreValues};
 
 use crate::ending::Ending;
@@ -21,16 +21,12 @@ use vault_rights::fault::RightsFault;
 use vault_rights::read::read_rights;
 use vault_words::commands::rights_file::RightsFileJob;
 
-/// The text of a file and the rights that it lists, or how the job ends without them: refused by 70 to 73 or
-/// 75, or stopped by 74 or, where the file can't be read, by 80.
-pub(crate) fn read_text<P: Paths>(
-    rt: &HostRuntime,
-    paths: &P,
-    path: &str,
-) -> Result<(Vec<u8>, Vec<ListedRight>), Ending>
-    // with Ok, the rows are the rights that this text of the file names, in order and each once, with its
-    // latest end
-    ensures listed { IfOk result (λ it. IsListedIn (P.says paths.now path.now) it.0.items it.1.items) }
+/// The rights that a file lists, or how the job ends without them: refused by 70 to 73 or 75, or stopped by 74
+/// or, where the file can't be read, by 80.
+fn read<P: Paths>(rt: &HostRuntime, paths: &P, path: &str) -> Result<Vec<ListedRight>, Ending>
+    // with Ok, the rows are the rights that a text of the file names, in order and each once, with its latest
+    // end
+    ensures listed { IfOk result (λ rows. IsListed (P.says paths.now path.now) rows.items) }
     // with Err, it ends by the refusal of a text of the file, or by a stop, since no text was read
     ensures unlisted { IfErr result (IsUnlisted (P.says paths.now path.now)) }
 {
@@ -39,22 +35,9 @@ pub(crate) fn read_text<P: Paths>(
         Err(error) => return Err(Ending::Stopped(Stop::Rights(error.kind()))),
     };
     match read_rights(rt.alloc(), &text) {
-        Ok(rows) => Ok((text, rows)),
+        Ok(rows) => Ok(rows),
         Err(RightsFault::Memory) => Err(Ending::Stopped(Stop::Rights(ErrorKind::OutOfMemory))),
         Err(fault) => Err(Ending::Refused(fault.refusal().number())),
-    }
-}
-
-/// The rights that a file lists, or how the job ends without them.
-fn read<P: Paths>(rt: &HostRuntime, paths: &P, path: &str) -> Result<Vec<ListedRight>, Ending>
-    // with Ok, the rows are the rights that a text of the file names
-    ensures listed { IfOk result (λ rows. IsListed (P.says paths.now path.now) rows.items) }
-    // with Err, it ends by the refusal of a text of the file, or by a stop, since no text was read
-    ensures unlisted { IfErr result (IsUnlisted (P.says paths.now path.now)) }
-{
-    match read_text(rt, paths, path) {
-        Ok((_, rows)) => Ok(rows),
-        Err(ending) => Err(ending),
     }
 }
 

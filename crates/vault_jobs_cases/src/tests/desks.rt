@@ -1,9 +1,10 @@
 //! A file that changes between two looks.
 use std::alloc::Global;
+use std::io::ErrorKind;
 use vault_live::desk::Desk;
 
-/// A file in memory, at every path. It has the first of these texts at the first look, the second one at the
-/// second, and so on; at an empty one, and behind the last, it can't be read.
+/// A file in memory, at every path. It has the first of these texts at look 1, the second one at look 2, and so
+/// on; at an empty one, at look 0 and behind the last, it can't be read.
 #[derive(Drop)]
 pub struct TestDesk<'x> {
     alloc: Global,
@@ -19,19 +20,28 @@ impl<'x> TestDesk<'x> {
 
 /// Each text is told at its look.
 impl<'x> Desk for TestDesk<'x> {
-    ghost use Rattle.std.specs.Prelude.{◌≡◌, Some, slice_get};
+    ghost use Rattle.std.specs.Prelude.{◌≡◌, ◌+◌, ℕ, Some, slice_get};
 
-    ghost says = { λ desk _ look text. (it : _) × (slice_get desk.texts.now look ≡ Some it)
-        × (text ≡ it.now) };
+    ghost says = { λ desk _ look text. (at : ℕ) × (it : _) × (at + 1 ≡ look)
+        × (slice_get desk.texts.now at ≡ Some it) × (text ≡ it.now) };
 
-    fn read(&self, _path: &str, look: u64) -> Option<Vec<u8>> {
-        let at = usize::try_from(look).ok()?;
-        let text = *self.texts.get(at)?;
+    fn read(&self, _path: &str, look: u64) -> Result<Vec<u8>, ErrorKind> {
+        let Some(before) = look.checked_sub(1) else {
+            return Err(ErrorKind::NotFound);
+        };
+        let Ok(at) = usize::try_from(before) else {
+            return Err(ErrorKind::NotFound);
+        };
+        let Some(text) = self.texts.get(at) else {
+            return Err(ErrorKind::NotFound);
+        };
         if text.is_empty() {
-            return None;
+            return Err(ErrorKind::NotFound);
         }
         let mut bytes = Vec::new(self.alloc);
-        bytes.extend_from_slice(text.as_bytes()).ok()?;
-        Some(bytes)
+        match bytes.extend_from_slice(text.as_bytes()) {
+            Ok(()) => Ok(bytes),
+            Err(_) => Err(ErrorKind::OutOfMemory),
+        }
     }
 }

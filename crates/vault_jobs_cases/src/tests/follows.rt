@@ -11,8 +11,7 @@ use vault_http::served::Served;
 use vault_listen::fault::ListenFault;
 use vault_listen::peers::{Accepted, Peers};
 use vault_listen::time::ClockTime;
-use vault_live::merchants::MerchantsList;
-use vault_live::office::{Both, BothKept, Maybe};
+use vault_live::lists::{ListsKept, ListsOffice, Shops};
 use vault_live::remembered::Remembered;
 use vault_live::rights::RightsList;
 use vault_live::turns::serve_turns;
@@ -75,6 +74,16 @@ const FAULTY: &str = "[till-1]\nshop1 = 7\n# end\n";
 
 const FAULTY_OPEN: &str = "[till-1]\nshop1 = 7\n";
 
+/// Lists whose last line ends otherwise, or doesn't end.
+const MORE_CARRIED: &str =
+    "[till-1]\r\nshop1 = ['tokenize']\r\n[till-2]\r\nshop1 = ['view']\r\n# end\r\n";
+
+const MORE_ENDLESS: &str = "[till-1]\nshop1 = ['tokenize']\n[till-2]\nshop1 = ['view']\n# end";
+
+const NONE_CARRIED: &str = "# end\r\n";
+
+const NONE_ENDLESS: &str = "# end";
+
 const UNKNOWN: &str = "[till-2]\nshop1 = ['view']\nshop9 = ['view']\n# end\n";
 /// Lists without their last line.
 const OPEN: &str = "[till-1]\nshop1 = ['tokenize']\n";
@@ -84,7 +93,7 @@ const OPEN_MORE: &str = "[till-1]\nshop1 = ['tokenize']\n[till-2]\nshop1 = ['vie
 /// The list in force; those that are found at the looks, where an empty one can't be read; and what is said.
 type Case = (&'static str, &'static [&'static str], &'static str);
 
-const CASES: [Case; 17] = [
+const CASES: [Case; 21] = [
     (FIRST, &[FIRST, FIRST, FIRST], ""),
     (
         FIRST,
@@ -103,13 +112,42 @@ const CASES: [Case; 17] = [
         &["", "", MORE, MORE],
         "rights unread at 1000\nrights granted 1 withdrawn 0 at 1000\n",
     ),
-    (FIRST, &[CUT, CUT, CUT], ""),
+    (FIRST, &[CUT, CUT, CUT], "rights unfinished at 1000\n"),
     (
         FIRST,
         &[CUT, CUT, MORE, MORE],
+        "rights unfinished at 1000\nrights granted 1 withdrawn 0 at 1000\n",
+    ),
+    (
+        FIRST,
+        &[CUT, CUT, FIRST, CUT, CUT],
+        "rights unfinished at 1000\nrights unfinished at 1000\n",
+    ),
+    (
+        FIRST,
+        &[OPEN_MORE, OPEN_MORE],
+        "rights unfinished at 1000\n",
+    ),
+    (
+        FIRST,
+        &[MORE_CARRIED, MORE_CARRIED],
         "rights granted 1 withdrawn 0 at 1000\n",
     ),
-    (FIRST, &[OPEN_MORE, OPEN_MORE], ""),
+    (
+        FIRST,
+        &[MORE_ENDLESS, MORE_ENDLESS],
+        "rights granted 1 withdrawn 0 at 1000\n",
+    ),
+    (
+        FIRST,
+        &[NONE_CARRIED, NONE_CARRIED],
+        "rights granted 0 withdrawn 1 at 1000\n",
+    ),
+    (
+        FIRST,
+        &[NONE_ENDLESS, NONE_ENDLESS],
+        "rights granted 0 withdrawn 1 at 1000\n",
+    ),
     (
         FIRST,
         &[NONE, NONE],
@@ -125,25 +163,16 @@ const CASES: [Case; 17] = [
         &[UNKNOWN, UNKNOWN, UNKNOWN],
         "rights refused 7 at 1000\n",
     ),
-    (
-        OPEN,
-        &[OPEN_MORE, OPEN_MORE],
-        "rights granted 1 withdrawn 0 at 1000\n",
-    ),
-    (OPEN, &["\n", "\n", "\n"], ""),
-    (
-        OPEN,
-        &[NONE, NONE],
-        "rights granted 0 withdrawn 1 at 1000\n",
-    ),
+    (OPEN, &[OPEN_MORE, OPEN_MORE], "rights unfinished at 1000\n"),
+    (OPEN, &["\n", "\n", "\n"], "rights unfinished at 1000\n"),
     (
         OPEN,
         &[FAULTY_OPEN, FAULTY_OPEN],
-        "rights refused 73 at 1000\n",
+        "rights unfinished at 1000\n",
     ),
     (
         OPEN,
-        &[FAULTY, FAULTY, OPEN_MORE, OPEN_MORE],
+        &[FAULTY, FAULTY, MORE, MORE],
         "rights refused 73 at 1000\nrights granted 1 withdrawn 0 at 1000\n",
     ),
 ];
@@ -226,7 +255,12 @@ const BOTH_CASES: [BothCase; 10] = [
         "merchants unread at 1000\n",
     ),
     (SHOPS, &[NONE, NONE, NONE], &[FIRST, FIRST, FIRST], ""),
-    (SHOPS, &["\n", "\n", "\n"], &[FIRST, FIRST, FIRST], ""),
+    (
+        SHOPS,
+        &["\n", "\n", "\n"],
+        &[FIRST, FIRST, FIRST],
+        "merchants unfinished at 1000\n",
+    ),
     (
         SHOPS,
         &[SHOPS, SHOPS, SHOPS, SHOPS, SHOPS],
@@ -268,18 +302,11 @@ fn said_of_both(rt: &HostRuntime, case: &BothCase, output: &mut Vec<u8>) {
     let time = ClockTime::new(&clock);
     let shops = TestDesk::new(alloc, case.1);
     let rights = TestDesk::new(alloc, case.2);
-    let office = Both {
-        first: Maybe {
-            office: Some(MerchantsList::new(alloc, &shops, "merchants.toml")),
-        },
-        second: Maybe {
-            office: Some(RightsList::new(alloc, &rights, "rights.toml")),
-        },
+    let office = ListsOffice {
+        shops: Some(Shops::new(alloc, &shops, "merchants.toml", &[])),
+        rights: Some(RightsList::new(alloc, &rights, "rights.toml")),
     };
-    let mut kept = BothKept {
-        first: Remembered::new(case.0.as_bytes()),
-        second: Remembered::new(FIRST.as_bytes()),
-    };
+    let mut kept = ListsKept::new(case.0.as_bytes(), FIRST.as_bytes());
     let mut peers = NobodyWaits {
         left: Cell::new(case.1.len().saturating_sub(1)),
     };

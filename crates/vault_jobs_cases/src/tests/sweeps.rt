@@ -6,7 +6,7 @@ use rand::SeedableRng;
 use rand::rngs::StdRng;
 use std::cell::Cell;
 use vault_listen::time::ClockTime;
-use vault_live::sweeps::{Sweeps, Swept};
+use vault_live::lists::{ListsKept, ListsOffice, Shops};
 use vault_live::turns::serve_turns;
 use vault_merchants::read::read_merchants;
 use vault_script::case::wrong;
@@ -160,12 +160,12 @@ detokenize till-1 shop1 2222222222221111 1065 = 4111111111111111",
 ];
 
 /// What is said while nobody connects, and dead tokens are purged, by a clock that stands.
-fn swept(
+fn swept<'x>(
     rt: &HostRuntime,
     vault: &mut Vault<MemTables>,
     second: u64,
-    began: &str,
-    texts: &[&str],
+    began: &'x str,
+    texts: &'x [&'x str],
     output: &mut Vec<u8>,
 ) {
     let clock = TestClock::stepping_at(second, 1);
@@ -173,12 +173,12 @@ fn swept(
 }
 
 /// The same by a clock.
-fn swept_by(
+fn swept_by<'x>(
     rt: &HostRuntime,
     vault: &mut Vault<MemTables>,
     clock: &TestClock,
-    began: &str,
-    texts: &[&str],
+    began: &'x str,
+    texts: &'x [&'x str],
     output: &mut Vec<u8>,
 ) {
     if vault.broken() {
@@ -190,8 +190,11 @@ fn swept_by(
     };
     let time = ClockTime::new(clock);
     let desk = TestDesk::new(alloc, texts);
-    let office = Sweeps::new(alloc, &desk, "merchants.toml", rows.as_slice());
-    let mut kept = Swept::new(began.as_bytes());
+    let office = ListsOffice {
+        shops: Some(Shops::new(alloc, &desk, "merchants.toml", rows.as_slice())),
+        rights: None,
+    };
+    let mut kept = ListsKept::new(began.as_bytes(), began.as_bytes());
     let mut peers = NobodyWaits {
         left: Cell::new(texts.len().saturating_sub(1)),
     };

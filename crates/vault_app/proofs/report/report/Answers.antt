@@ -30,6 +30,20 @@ returns-in-Misnamed-clause-said g c =
           (append-nil c.line-in-Misnamed.result.now ∙ c.line-in-Misnamed.ensures) c.tell-in-Misnamed.ensures,
     )
 
+pub returns-in-Unfinished-clause-said : goal.returns-in-Unfinished-clause-said
+returns-in-Unfinished-clause-said g c =
+    let sent = c.tell_numbered-in-Unfinished.new.writer in
+    let old = g.E.Write.contents (inner_of c.args.errors.now) in
+    let told = c.tell-in-Unfinished.new.writer in
+    let new = g.E.Write.contents (inner_of told) in
+    rw c.in-Unfinished.is (
+      subst (λ (n : ℕ). Tells (g.W.Write.contents (inner_of c.args.output.now))
+          (g.W.Write.contents (inner_of sent)) (is_stopped sent) (refusal_line n))
+          c.number-in-Unfinished.ensures c.tell_numbered-in-Unfinished.ensures,
+      subst (λ (t : List ℕ). Tells old new (is_stopped told) t)
+          (append-nil c.unfinished.result.now ∙ c.unfinished.ensures) c.tell-in-Unfinished.ensures,
+    )
+
 pub returns-in-Stopped-clause-said : goal.returns-in-Stopped-clause-said
 returns-in-Stopped-clause-said g c =
     let old = g.E.Write.contents c.args.errors.now.inner in

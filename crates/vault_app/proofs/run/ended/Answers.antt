@@ -3,7 +3,6 @@ use Rattle.vault_jobs.specs.Streams.{seen_as, streams, with_turns}
 use Rattle.vault_listen.proofs.ServedConnections.{none_then}
 use Rattle.vault_app.specs.Jobs.{DoesPlan}
 use Rattle.vault_app.specs.World.{World, world_at}
-use Rattle.vault_app.proofs.Looks.{looked_plan, looked_planless}
 use Rattle.vault_app.proofs.Unread.{unasked}
 use Rattle.vault_app.proofs.run.ended.Goals as goal
 
@@ -21,8 +20,7 @@ returns-in-Ok-clause-does g c =
         asked.1,
         inl (
           c.in-Ok.plan,
-          looked_plan g.P.Paths (g.K.Timekeeper.tells c.args.time.now) (g.D.Desk.says c.args.desk.now)
-              c.args.paths asked.0 c.in-Ok.plan asked.2,
+          asked.2,
           c.in-Ok.ensures.proper,
           subst (λ o. DoesPlan world c.carry_out-ending.result.1 c.in-Ok.plan c.carry_out-ending.result.0
               (seen_as (c.carry_out-ending.new.input ≡ c.args.input.now) (c.carry_out-ending.new.output ≡ o)
@@ -36,9 +34,8 @@ pub returns-in-Err-clause-does : goal.returns-in-Err-clause-does
 returns-in-Err-clause-does g c = (
   [],
   none_then (g.N.Network.tells c.args.network.now),
-  elim (looked_planless g.P.Paths (g.K.Timekeeper.tells c.args.time.now) (g.D.Desk.says c.args.desk.now)
-      c.args.paths _ c.in-Err.conclusion.ending _ c.in-Err.ensures.planless) [
-        | inl h ↦ inl (h.0.0, h.0.1, inr (h.0.2, refl, refl, h.1))
-        | inr u ↦ inr (refl, unasked _ c.in-Err.conclusion.ending _ _ refl u)
-      ],
+  elim c.in-Err.ensures.planless [
+    | inl h ↦ inl (h.0.0, h.0.1, inr (h.0.2, refl, refl, h.1))
+    | inr u ↦ inr (refl, unasked _ c.in-Err.conclusion.ending _ _ refl u)
+  ],
 )

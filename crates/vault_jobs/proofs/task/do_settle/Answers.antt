@@ -1,6 +1,7 @@
 use Rattle.std.proofs.Common.{◌∙◌, ap, codes, decimal, inl, inr, refl, subst}
 use Rattle.std.specs.Io.KnownBytes.{Appends}
 use Rattle.vault_wire.specs.Watching.{inner_of}
+use Rattle.vault_jobs.specs.Doing.{AppendsPart}
 use Rattle.vault_jobs.proofs.Lines.{five}
 use Rattle.vault_jobs.proofs.task.do_settle.Goals as goal
 
@@ -32,6 +33,12 @@ returns-in-Ok-Ok-default-clause-does g c =
         c.in-Err-answer.ensures.failed.0,
         c.in-Err-answer.ensures.failed.1,
         rw it.field-0-0-is at it.ensures.carried,
+        subst (AppendsPart (g.W.Write.contents (inner_of c.args.output.now))
+            (g.W.Write.contents (inner_of c.answer.new.output)))
+            (five (codes "granted ") c.format.result.now _ (codes " withdrawn ")
+            c.format-in-Ok-Ok-default.result.now _ (codes "\n") c.format.ensures.text
+            (c.format-in-Ok-Ok-default.ensures.text ∙ ap decimal c.withdrawn.ensures))
+            c.in-Err-answer.ensures.cut,
       ),
     )
 

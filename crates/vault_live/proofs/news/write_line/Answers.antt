@@ -1,7 +1,7 @@
 use Rattle.std.proofs.Common.{subst, sym}
 use Rattle.vault_live.specs.News.{line_of}
 use Rattle.vault_live.specs.Told.{Tells}
-use Rattle.vault_live.proofs.Telling.{told_changed, told_refused, told_set, told_unread}
+use Rattle.vault_live.proofs.Telling.{told_changed, told_refused, told_set, told_unfinished, told_unread}
 use Rattle.vault_live.proofs.news.write_line.Goals as goal
 
 pub returns-in-Changed : goal.returns-in-Changed
@@ -39,3 +39,12 @@ returns-in-Unread g c =
     (told_unread old new c.tell-in-Unread.new.writer.stopped c.in-Unread.about c.in-Unread.now _ _
     c.name-in-Unread.ensures
     (rw c.seconds-in-Unread.ensures.value at c.format-in-Unread.ensures.text) c.tell-in-Unread.ensures)
+
+pub returns-in-Unfinished : goal.returns-in-Unfinished
+returns-in-Unfinished g c =
+    let old = g.W.Write.contents c.args.output.now.inner in
+    let new = g.W.Write.contents c.tell-in-Unfinished.new.writer.inner in
+    subst (λ news. Tells old new c.tell-in-Unfinished.new.writer.stopped (line_of news)) (sym c.in-Unfinished.is)
+    (told_unfinished old new c.tell-in-Unfinished.new.writer.stopped c.in-Unfinished.about c.in-Unfinished.now _ _
+    c.name-in-Unfinished.ensures
+    (rw c.seconds-in-Unfinished.ensures.value at c.format-in-Unfinished.ensures.text) c.tell-in-Unfinished.ensures)

@@ -1,4 +1,4 @@
-use Rattle.std.proofs.Common.{◌++◌, arith, List, [], ◌∷◌, Ok, Err, refl}
+use Rattle.std.proofs.Common.{◌++◌, arith, List, [], ◌∷◌, Ok, Err, refl, rules}
 use Rattle.vault_core.specs.declared.command.Command.{Command}
 use Rattle.vault_engine.specs.Passing.{passage, vault_passing}
 use Rattle.vault_live.specs.Turns.{AllKept, Turn}
@@ -27,7 +27,8 @@ module _ (g : Over) (c : After-say g) where
   attended =
       attend_ok (g.K.Timekeeper.tells c.args.time.now)
       (g.O.Office.asks c.args.office.now (g.K.Timekeeper.tells c.args.time.now))
-      (passage g.T.Tables c.args.vault.now c.attend.new.vault) c.in-Ok.news c.in-Ok.ensures.attends
+      (passage g.T.Tables c.args.vault.now c.attend.new.vault) c.in-Ok.news (search (rules, c.well_formed))
+      c.in-Ok.ensures.attends
 
   first : Turn
   first = Attended attended.0 c.in-Ok.news

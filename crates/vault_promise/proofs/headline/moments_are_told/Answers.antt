@@ -1,4 +1,4 @@
-use Rattle.vault_promise.proofs.ToldMoments.{moments_told}
+use Rattle.vault_promise.proofs.Sentences.{moments_told}
 use Rattle.vault_promise.proofs.headline.moments_are_told.Goals as goal
 
 pub returns : goal.returns

@@ -1,8 +1,8 @@
-use Rattle.std.proofs.Common.{◌∙◌, Ok, Err, subst, sym}
-use Rattle.std.specs.Prelude.{IfSome}
+use Rattle.std.proofs.Common.{Ok, Err, subst, sym}
 use Rattle.vault_engine.specs.Passing.{Passage, passage}
 use Rattle.vault_live.proofs.Attending.{attends_at}
-use Rattle.vault_live.specs.Following.{AreSettled, Looks}
+use Rattle.vault_live.proofs.Remembering.{taken_settled}
+use Rattle.vault_live.specs.Following.{AreSettled, HaveTaken, Looks, taken_of}
 use Rattle.vault_live.proofs.following.Following.carry.Given.{Over}
 use Rattle.vault_live.proofs.following.Following.carry.Goals.{After-carry_list}
 use Rattle.vault_live.proofs.following.Following.carry.Goals as goal
@@ -15,8 +15,10 @@ module _ (g : Over) (c : After-carry_list g) where
   settled : AreSettled g.L.Kind.names says c.as_slice.result.now
   settled =
       subst (AreSettled g.L.Kind.names says) (sym c.as_slice.ensures.value)
-      (subst (λ o. IfSome o (λ rows. AreSettled g.L.Kind.names says rows.items))
-      (sym c.take.ensures.value ∙ c.in-Some.is) c.requires.remembers.rows)
+      (taken_settled g.L.Kind.names says c.args.kept.now.look (taken_of c.args.kept.now.list) c.in-Some.rows
+      c.requires.remembers.taken
+      (subst (HaveTaken g.L.Kind.names (taken_of c.args.kept.now.list)) c.in-Some.is
+      c.requires.remembers.rows))
 
   abbrev w : Passage
   w = passage g.T.Tables c.args.vault.now c.carry_list.new.vault

@@ -10,8 +10,13 @@ returns-in-Some-clause-follows g c =
     let image = bytes_in c.args.self.files in
     let leaves = leaves_closed image c.run_again-status.result.1 c.in-Some.store c.in-Some.is
     (c.files_of.ensures.clean refl) (MayBeLeftIn c.files_of.result) (c.files_of.ensures.left refl) in
-    let (r, begins, moments, call, is_run) = c.run_again-status.ensures image (λ turn now. true)
-    (λ turn now told. refl) (λ job path asked named. refl) in
+    let (r, begins, moments, texts, call, is_run) = c.run_again-status.ensures image (λ turn now. true)
+    (record { said = λ path text. true; looked = λ path look text. true })
+    (record {
+      tells = λ turn now told. refl;
+      says = λ path text told. refl;
+      looks = λ path look text told. refl;
+    }) (λ job path asked named. refl) in
     let goes = goes_from (MayBeLeftIn c.args.self.files) (MayBeLeftIn c.files_of.result) image r begins
     (inl refl, inl refl) (λ next may. is_run next (leaves next may)) in (
       r,
@@ -40,8 +45,13 @@ invariant_of-result g c =
     let image = bytes_in c.args.self.files in
     let leaves = leaves_closed image c.run_again-status.result.1 c.in-Some.store c.in-Some.is
     (c.files_of.ensures.clean refl) (MayBeLeftIn c.files_of.result) (c.files_of.ensures.left refl) in
-    let (r, begins, moments, call, is_run) = c.run_again-status.ensures image (λ turn now. true)
-    (λ turn now told. refl) (λ job path asked named. refl) in
+    let (r, begins, moments, texts, call, is_run) = c.run_again-status.ensures image (λ turn now. true)
+    (record { said = λ path text. true; looked = λ path look text. true })
+    (record {
+      tells = λ turn now told. refl;
+      says = λ path text told. refl;
+      looks = λ path look text told. refl;
+    }) (λ job path asked named. refl) in
     let goes = goes_from (MayBeLeftIn c.args.self.files) (MayBeLeftIn c.files_of.result) image r begins
     (inl refl, inl refl) (λ next may. is_run next (leaves next may)) in
     record { kept = ∥∥₁_map c.args.self.kept (λ (V, rs, have). (V, rs ++ r ∷ [], goes V rs have)) }

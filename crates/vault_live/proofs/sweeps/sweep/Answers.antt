@@ -1,7 +1,7 @@
 use Rattle.vault_engine.specs.Passing.{passage}
 use Rattle.vault_live.proofs.Attending.{attend_unsaid}
 use Rattle.vault_live.specs.Sweeping.{AsksFirst}
-use Rattle.vault_live.proofs.sweeps.Sweeps.sweep.Goals as goal
+use Rattle.vault_live.proofs.sweeps.sweep.Goals as goal
 
 pub returns-in-Ok-default-true-clause-attends : goal.returns-in-Ok-default-true-clause-attends
 returns-in-Ok-default-true-clause-attends g c =
