@@ -101,7 +101,7 @@ step "a name that is none is refused before a row" 'vault: CALLER is no name (1)
 step "and no file is made" 'none' "$([ -e none.db ] && echo made || echo none)"
 step "a merchant is missing in the words" 'vault: bad words *<MERCHANT> (2), no line' \
     "$(compare one /dev/null vault.db till-1)"
-step "a file that isn't opened" 'vault: file not opened 34 (3), no line' \
+step "a file that isn't opened" "vault: file not opened 34 vault: FILE or its log can't be opened (3), no line" \
     "$(compare one /dev/null . till-1 shop1)"
 
 # Two rows at a moment and with digits that are fixed, byte for byte.

@@ -10,14 +10,14 @@ rights() {
     "$program" list vault.db | sed -n 's/^right //p'
 }
 
-step "a file that isn't there isn't listed" 'vault: file not opened 34 (3)' "$(told "$program" list none.db)"
+step "a file that isn't there isn't listed" 'vault: file not opened 34|vault: there is no vault in FILE (3)' "$(told "$program" list none.db)"
 step "and isn't made" 'no' "$([ -e none.db ] && echo yes || echo no)"
-step "nor is it compared with a list" 'vault: file not opened 34 (3)' \
+step "nor is it compared with a list" 'vault: file not opened 34|vault: there is no vault in FILE (3)' \
     "$(: > empty.toml; told "$program" rights --dry-run none.db empty.toml)"
 
 : > blank.db
-step "one without a byte isn't listed" 'vault: file not opened 34 (3)' "$(told "$program" list blank.db)"
-step "nor compared with a list" 'vault: file not opened 34 (3)' \
+step "one without a byte isn't listed" 'vault: file not opened 34|vault: there is no vault in FILE (3)' "$(told "$program" list blank.db)"
+step "nor compared with a list" 'vault: file not opened 34|vault: there is no vault in FILE (3)' \
     "$(told "$program" rights --dry-run blank.db empty.toml)"
 step "and stays without a byte, and without a log" 'blank.db 0' "$(echo blank.db*) $(wc -c < blank.db)"
 
@@ -120,7 +120,8 @@ step "one that is refused doesn't listen" 'refused 7 1' "$(cat served) $code"
 code=0
 serve --rights none.toml
 wait "$service" || code=$?
-step "nor does one whose list isn't there" 'vault: stopped 80 4' "$(cat served errors) $code"
+step "nor does one whose list isn't there" "vault: stopped 80
+vault: RIGHTS can't be read 4" "$(cat served errors) $code"
 
 # Merchants of a list are set, and none is removed.
 merchants() {
@@ -139,7 +140,7 @@ step "what a list of merchants would set is said" \
     'merchant shop2 single 60 multi 0 lead 8|merchant shop3 single 5 multi 6 lead 6 (0)' \
     "$(told "$program" merchants --dry-run vault.db merchants.toml)"
 step "and isn't set" '2' "$(merchants | wc -l)"
-step "of a file that isn't there nothing is said" 'vault: file not opened 34 (3)' \
+step "of a file that isn't there nothing is said" 'vault: file not opened 34|vault: there is no vault in FILE (3)' \
     "$(told "$program" merchants --dry-run none.db merchants.toml)"
 step "they are set" 'merchants set 2 (0)' "$(told "$program" merchants vault.db merchants.toml)"
 step "and one that isn't listed stays" \
@@ -151,7 +152,7 @@ step "the same list again sets nothing" 'merchants set 0 (0)' \
 printf '[shop4]\nsingle = 3155760001\nmulti = 0\n# end\n' > long.toml
 step "a life out of range is refused" 'refused 76 (1)' "$(told "$program" merchants vault.db long.toml)"
 step "and nothing is set" '3' "$(merchants | wc -l)"
-step "a list that isn't there stops it" 'vault: stopped 80 (4)' \
+step "a list that isn't there stops it" "vault: stopped 80|vault: LIST can't be read (4)" \
     "$(told "$program" merchants vault.db none.toml)"
 
 # A service sets its merchants first, so its rights may name a new one.

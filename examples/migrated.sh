@@ -99,7 +99,7 @@ step "its rows are brought back, and moved" 'sound 2 4 4 (0)' \
 step "with each number once a merchant" 'shop1 2;shop2 1;' "$(uses rebuilt.db)"
 step "another program's file" 'vault: file not opened 33 (3)' \
     "$(sqlite3 other.db 'CREATE TABLE notes (line TEXT)' && told "$program" migrate other.db)"
-step "a folder" 'vault: file not opened 34 (3)' "$(told "$program" migrate .)"
+step "a folder" "vault: file not opened 34|vault: FILE or its log can't be opened (3)" "$(told "$program" migrate .)"
 made='vault: there was no vault in FILE, and an empty one is made'
 step "a file that isn't there is made in the newest schema" "schema 4|$made (0)" \
     "$(told "$program" migrate new.db)"

@@ -90,19 +90,21 @@ step "2: a port that is none" "vault: bad words|PORT: 65536 isn't a port (2)" \
 # 3
 echo 'A line of text, and no database.' > text
 mkdir folder
-step "3: a text" 'vault: file not opened 34 (3)' "$(checked text)"
+step "3: a text" 'vault: file not opened 34|vault: FILE is damaged, or is no database (3)' "$(checked text)"
 step "3: it stays as it was" 'A line of text, and no database.' "$(cat text)"
-step "3: a folder" 'vault: file not opened 34 (3)' "$(checked folder)"
-step "3: a path into nowhere" 'vault: file not opened 34 (3)' "$(checked nowhere/vault.db)"
-step "3: no name of a file" 'vault: file not opened 34 (3)' "$(told "$program" pipe :memory:)"
+unopened="vault: file not opened 34|vault: FILE or its log can't be opened (3)"
+step "3: a folder" "$unopened" "$(checked folder)"
+step "3: a path into nowhere" "$unopened" "$(checked nowhere/vault.db)"
+step "3: no name of a file" "$unopened" "$(told "$program" pipe :memory:)"
 must_serve --connections 100 shop.db
-step "3: a file that is in use" 'vault: file not opened 34 (3)' "$(checked shop.db)"
-step "3: nor does it move" 'vault: file not opened 34 (3)' "$(told "$program" migrate shop.db)"
+in_use='vault: file not opened 34|vault: another program has FILE open (3)'
+step "3: a file that is in use" "$in_use" "$(checked shop.db)"
+step "3: nor does it move" "$in_use" "$(told "$program" migrate shop.db)"
 
 # 4
 step "4: a port that is taken" 'vault: stopped 80 (4)' \
     "$(told "$program" serve --connections 1 --port "$port" new.db)"
-step "4: a rights file that isn't there" 'vault: stopped 80 (4)' \
+step "4: a rights file that isn't there" "vault: stopped 80|vault: RIGHTS can't be read (4)" \
     "$(told "$program" rights new.db none.toml)"
 step "4: a full disk behind the output" 'vault: stopped 62 (4)' "$(told_full "$program" check new.db)"
 step "4: so of a file that moves" 'vault: stopped 62 (4)' "$(told_full "$program" migrate new.db)"

@@ -77,7 +77,7 @@ step "a name that is none is refused" 'refused 4|vault: CALLER is no name (1)' \
 step "and no file is made" 'none' "$([ -e none.db ] && echo made || echo none)"
 step "a merchant is missing in the words" 'vault: bad words|*|  <MERCHANT> (2)' \
     "$(sweep_at 1070 vault.db back)"
-step "a file that isn't opened" 'vault: file not opened 34 (3)' "$(sweep_at 1070 . back shop1)"
+step "a file that isn't opened" "vault: file not opened 34|vault: FILE or its log can't be opened (3)" "$(sweep_at 1070 . back shop1)"
 
 # A clock that falls: the merchant's moment is 1075, where the second token has expired.
 step "the merchant's moment moves" '{"done":true} 200' "$(back_at 1075 DELETE "$tokens/$third")"

@@ -36,8 +36,8 @@ def run(arguments, word, again, rows=None):
         ran = subprocess.run(words, stdin=rows, capture_output=True, text=True)
     except OSError as error:
         ended(f"{arguments.program} can't be run: {error.strerror}")
-    line = ran.stderr.strip() or "the program was killed"
-    if line.endswith("file not opened 34"):
+    line = ran.stderr.strip().replace("\nvault:", ":") or "the program was killed"
+    if line.endswith("another program has FILE open"):
         ended(f"{line}: stop the service that has the file, and {again}", 3)
     if ran.returncode == 4 or ran.returncode < 0:
         ended(f"{line}: {again}", 4)

@@ -47,7 +47,7 @@ class Trial:
             return "broke", ran.broke
         if ran.is_like(self.plain):
             said = "as with all memory"
-        elif ran.told in self.job.may_say() and ran.err == f"vault: {ran.told}\n".encode():
+        elif ran.told in self.job.may_say() and ran.ending == f"vault: {ran.told}\n".encode():
             said = jobs.code(ran.told)
         elif ran.told in self.job.apart:
             said = f"{jobs.code(ran.told)}, apart"

@@ -21,7 +21,8 @@ vault merchant --now 1000 FILE shop1 60 0
 vault grant --now 1000 FILE till-1 shop1 tokenize"""
 # What a check says on the errors of a file with a log, and what is said of a file that is no vault.
 HAS_LOG = runs.HAS_LOG.decode()
-NOT_OPENED = "vault: file not opened 34\n"
+NOT_OPENED = "vault: file not opened 34\nvault: FILE or its log can't be opened\n"
+NO_DATABASE = "vault: file not opened 34\nvault: FILE is damaged, or is no database\n"
 # How many characters a fault shows of each thing that differs.
 MOST_SHOWN = 600
 

@@ -3,7 +3,7 @@
 import socket
 from pathlib import Path
 
-from runs.cases import ANSWERED, ASKED, HAS_LOG, NOT_OPENED, SHOP, Case, answer, begun, fault_of, tried
+from runs.cases import ANSWERED, ASKED, HAS_LOG, NO_DATABASE, NOT_OPENED, SHOP, Case, answer, begun, fault_of, tried
 from shared.tally import unlike
 
 # A repeat answers the first token of a shop.
@@ -172,7 +172,7 @@ def judge_other(tally, program):
     Path("files/other").mkdir(parents=True)
     Path("files/other/text").write_text(TEXT)
     case = Case(tally, program, "a file that is no vault is not opened")
-    case.ends(*((line, "", 3, "", NOT_OPENED) for line in OTHER))
+    case.ends(*((line, "", 3, "", NO_DATABASE if "text" in line else NOT_OPENED) for line in OTHER))
 
 
 def judge_statuses(tally, program):

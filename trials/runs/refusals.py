@@ -5,12 +5,12 @@ import itertools
 import subprocess
 
 from runs.reasons import BAD_WORDS
-from shared.runs import SECONDS, Ran, run, side_by_side
+from shared.runs import NO_RIGHTS, SECONDS, UNOPENED, Ran, run, side_by_side
 from shared.tally import unlike
 
 # How a job ends whose words are taken, by its subcommand; any other one can't open its file.
-ENDS = {"trial": (0, b"", b""), "rights": (4, b"", b"vault: stopped 80\n")}
-NO_FILE = (3, b"", b"vault: file not opened 34\n")
+ENDS = {"trial": (0, b"", b""), "rights": (4, b"", b"vault: stopped 80\n" + NO_RIGHTS)}
+NO_FILE = (3, b"", b"vault: file not opened 34\n" + UNOPENED)
 
 # Lines, and values in place of their `?`, with whether they are taken.
 TABLES = (

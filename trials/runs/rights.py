@@ -45,5 +45,5 @@ def judged(tally, program):
     case = begun(tally, program, "a rights file that is refused leaves the vault alone", folder)
     for place, (text, line) in enumerate(REFUSED, 1):
         gives(case, folder, place, text, 1, line)
-    case.ends((f"vault rights FILE {folder}/none.toml", "", 4, "", "vault: stopped 80\n"))
+    case.ends((f"vault rights FILE {folder}/none.toml", "", 4, "", "vault: stopped 80\nvault: RIGHTS can't be read\n"))
     case.makes_nothing()

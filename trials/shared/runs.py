@@ -20,6 +20,15 @@ NOTES = (
     b"vault: the clock is more than 31 days ahead of the merchant's last moment\n",
     b"vault: there was nothing to withdraw\n",
 )
+# What stands behind the line of a file that isn't opened, or of a list that can't be read.
+NO_VAULT = b"vault: there is no vault in FILE\n"
+OPEN_ELSEWHERE = b"vault: another program has FILE open\n"
+DAMAGED = b"vault: FILE is damaged, or is no database\n"
+NO_MEMORY = b"vault: memory was refused\n"
+UNOPENED = b"vault: FILE or its log can't be opened\n"
+NO_RIGHTS = b"vault: RIGHTS can't be read\n"
+NO_LIST = b"vault: LIST can't be read\n"
+CAUSES = (NO_VAULT, OPEN_ELSEWHERE, DAMAGED, NO_MEMORY, UNOPENED, NO_RIGHTS, NO_LIST)
 WORKERS = int(os.environ.get("WORKERS", os.cpu_count() or 1))
 
 
@@ -31,12 +40,17 @@ class Ran(NamedTuple):
     err: bytes
 
     @property
-    def told(self):
-        """The line of its ending, without `vault: ` before it. What is noted of a run that is done is none."""
+    def ending(self):
+        """What it says of its ending, without a note on a run that is done and without a cause."""
         ending = self.err
-        for note in NOTES:
-            ending = ending.removesuffix(note)
-        return ending.decode("ascii", "replace").strip().removeprefix("vault: ")
+        for behind in (*NOTES, *CAUSES):
+            ending = ending.removesuffix(behind)
+        return ending
+
+    @property
+    def told(self):
+        """The line of its ending, without `vault: ` before it."""
+        return self.ending.decode("ascii", "replace").strip().removeprefix("vault: ")
 
     @property
     def said(self):

@@ -1,7 +1,7 @@
 -- A task on the vault in files, said of the files.
 use Rattle.std.proofs.Common.{◌≡◌, ◌↔◌, ◌⊎◌, ℕ, List, Bool, Option, Some, None, Result, Ok, Err, false}
 use Rattle.std.proofs.Common.{◌≤◌, ap, arith, inl, inr, refl, subst, sym}
-use Rattle.std.specs.Prelude.{ℤ, IfErr, IfOk, IfSome}
+use Rattle.std.specs.Prelude.{ℤ, IfErr, IfOk, IfSome, IsErrAnd}
 use Rattle.sqlite.specs.Files.{file_state}
 use Rattle.sqlite.specs.Held.{Held}
 use Rattle.sqlite.specs.State.{HasCleanDisk}
@@ -39,8 +39,15 @@ use Rattle.vault_app.specs.World.{World, outside_in}
 use Rattle.vault_app.specs.Jobs.{IsChecked, IsMoved}
 use Rattle.vault_app.specs.declared.ending.Ending.TheVariants.{NotOpened}
 use Rattle.vault_engine.specs.Passing.{vault_passing}
-use Rattle.vault_file.specs.Refused.{WhereDone, WhereLeft, WhereShut}
+use Rattle.vault_file.specs.Refused.{IfRefused, IsRefusal, IsRefusedBy, WhereDone, WhereLeft, WhereShut}
+use Rattle.vault_recover.specs.declared.unopened.Unopened.{Unopened}
 use Rattle.vault_store.specs.Applied.{is_broken}
+
+-- it is 34, for this cause
+pub refused_by : (Is : Unopened → Type 0) (why : FileFault) → IsRefusal why → IfRefused why Is
+    → IsRefusedBy Is why
+refused_by Is (file.Refused cause) is there = there
+refused_by Is (file.Fault fault) is there = absurd is
 
 module _ {D : Type 0} {g : Ghosts D} {T : Type 0} (conn_of : T → Held (FileStore D g))
     (failed : T → Bool) (Past : T → Content → Type 0) where
@@ -107,13 +114,13 @@ module _ {D : Type 0} {g : Ghosts D} (world : World) (path : List ℕ) (unread u
     ended left task (Err stop) (Some it) works = let is = works.done.noted.fits.1 in absurd (cc (is))
 
     pub refused_file : (left : Option (FileStore D g)) (task : Task) (why : FileFault)
-        → (why ≡ file.Refused) ↔ (left ≡ None) → (why ≡ file.Refused → world.refuses path)
+        → IsRefusal why ↔ (left ≡ None) → IfRefused why (world.refuses path)
         → IfSome left (λ it. Each (world.holds path) (λ image. IsClean (view it) → RefusesRightly image why))
         → IfSome left (λ it. Each (world.holds path) (λ image. Stays image it))
         → IfSome left (λ it. Each (world.holds path) (λ image. ¬ MayFindNone image → StaysWhole image it))
         → unread → unsent → EndsOnFile world path left task (NotOpened why) (seen_as unread unsent s)
     refused_file None task why is there tells stays same calm silent =
-        (why, refl, inl (is.1 refl, inl (there (is.1 refl))), calm, silent)
+        (why, refl, inl (inl (refused_by (world.refuses path) why (is.1 refl) there)), calm, silent)
     refused_file (Some left) task why is there tells stays same calm silent =
         (record { tells = tells; stays = stays; same = same }, calm, silent)
 
@@ -126,9 +133,9 @@ module _ {D : Type 0} {g : Ghosts D} (world : World) (path : List ℕ) where
   -- what a check comes to
   pub checked : (left : Option (FileStore D g)) (r : Result Sizes FileFault)
       → (left ≡ None → IfOk r (λ sizes. (sizes ≡ sizes_of empty_vault) × world.lacks path))
-      → IfErr r (λ why. (why ≡ file.Refused → left ≡ None)
-      × (left ≡ None → (why ≡ file.Refused) ⊎ (why ≡ file.Fault Memory)))
-      → (r ≡ Err file.Refused → world.refuses path)
+      → IfErr r (λ why. (IsRefusal why → left ≡ None)
+      × (left ≡ None → IsRefusal why ⊎ (why ≡ file.Fault Memory)))
+      → IfErr r (λ why. IfRefused why (world.refuses path))
       → WhereDone (r, left) (world.holds path) ChecksAs
       → WhereLeft (r, left) (world.holds path) (λ image it why. IsClean (view it) → RefusesRightly image why)
       → WhereShut (r, left) (world.holds path) StaysWhole → WhereShut (r, left) (world.holds path) Stays
@@ -136,7 +143,7 @@ module _ {D : Type 0} {g : Ghosts D} (world : World) (path : List ℕ) where
   checked None (Ok sizes) empty refused there sound tells same stays = empty refl
   checked None (Err why) empty refused there sound tells same stays =
       elim (refused.1 refl) [
-        | inl is ↦ inl (is, there (ap Err is))
+        | inl is ↦ inl (refused_by (world.refuses path) why is there)
         | inr starved ↦ inr starved
       ]
   checked (Some left) (Ok sizes) empty refused there sound tells same stays =
@@ -146,11 +153,11 @@ module _ {D : Type 0} {g : Ghosts D} (world : World) (path : List ℕ) where
 
   -- and a migration
   pub moved : (left : Option (FileStore D g)) (r : Result ℤ FileFault)
-      → (left ≡ None) ↔ (r ≡ Err file.Refused) → (r ≡ Err file.Refused → world.refuses path)
+      → (left ≡ None) ↔ IsErrAnd r IsRefusal → IfErr r (λ why. IfRefused why (world.refuses path))
       → WhereDone (r, left) (world.holds path) (λ image it _. MovesAs image it)
       → WhereLeft (r, left) (world.holds path) StaysUnmoved → IsMoved world path left r
-  moved None (Ok version) refused there moves stays = let clash = refused.0 refl in cc
+  moved None (Ok version) refused there moves stays = absurd (refused.0 refl)
   moved None (Err why) refused there moves stays =
-      let is : Err why ≡ Err file.Refused = refused.0 refl in (cc (is), there is)
+      refused_by (world.refuses path) why (refused.0 refl) there
   moved (Some left) (Ok version) refused there moves stays = moves
   moved (Some left) (Err why) refused there moves stays = stays

@@ -1,12 +1,16 @@
 -- How a job ends, and what the program says of it.
-use Rattle.std.specs.Prelude.{◌≡◌, ◌⊎◌, ℕ, ◌++◌, List, codes, decimal}
+use Rattle.std.specs.Prelude.{◌≡◌, ◌⊎◌, ℕ, ◌++◌, List, [], codes, decimal}
+use Rattle.std.specs.declared.io.ErrorKind.TheVariants as kind
 use Rattle.std.specs.Fmt.{signed_decimal}
 use Rattle.vault_schema.specs.Versions.{newest, number_of as version_number}
 use Rattle.vault_refusal.specs.Refusal.{number_of}
 use Rattle.vault_refusal.specs.declared.refusal.Refusal.TheVariants.{BadName, NotToml, UnknownRight}
 use Rattle.vault_file.specs.Faults as file
 use Rattle.vault_file.specs.declared.fault.NotOpened.{NotOpened as FileFault}
+use Rattle.vault_file.specs.declared.fault.NotOpened.TheVariants as opening
 use Rattle.vault_jobs.specs.Causes.{refusal_of}
+use Rattle.vault_jobs.specs.declared.stop.Stop.{Stop}
+use Rattle.vault_jobs.specs.declared.stop.Stop.TheVariants.{Unread}
 use Rattle.vault_jobs.specs.declared.note.Note.TheVariants.{NoMerchant, ClockAhead, NothingWithdrawn}
 use Rattle.vault_app.specs.declared.ending.Ending.{Ending}
 use Rattle.vault_app.specs.declared.ending.Ending.TheVariants.{Done, Noted, Version, Refused, Misnamed}
@@ -19,6 +23,7 @@ use Rattle.vault_jobs.specs.Streams.{Known}
 use Rattle.vault_live.specs.Told.{Tells}
 use Rattle.vault_live.specs.declared.subject.Subject.{Subject}
 use Rattle.vault_live.specs.declared.subject.Subject.TheVariants as subject
+use Rattle.vault_recover.specs.declared.unopened.Unopened.TheVariants.{Missing, Elsewhere, Damaged, Memory, Host}
 use Rattle.vault_wire.specs.Watching.{inner_of, is_stopped}
 use Rattle.vault_wire.specs.declared.watched.Watched.{Watched}
 
@@ -83,15 +88,31 @@ unfinished_line subject.Merchants = codes "vault: the last line of LIST is not #
 abbrev pub bad_words_line : List ℕ
 bad_words_line = codes "vault: bad words\n"
 
+-- the line behind 34, which says the cause, as far as the host and the database tell it
+abbrev pub cause_line : FileFault → List ℕ
+cause_line (opening.Refused Missing) = codes "vault: there is no vault in FILE\n"
+cause_line (opening.Refused Elsewhere) = codes "vault: another program has FILE open\n"
+cause_line (opening.Refused Damaged) = codes "vault: FILE is damaged, or is no database\n"
+cause_line (opening.Refused Memory) = codes "vault: memory was refused\n"
+cause_line (opening.Refused Host) = codes "vault: FILE or its log can't be opened\n"
+cause_line (opening.Fault fault) = []
+
 -- a file isn't opened
-abbrev pub not_opened_line : FileFault → List ℕ
-not_opened_line f =
+abbrev pub not_opened_lines : FileFault → List ℕ
+not_opened_lines f =
     codes "vault: file not opened " ++ decimal (number_of (file.refusal_of f))
-    ++ file.detail_text (file.detail_of f) ++ codes "\n"
+    ++ file.detail_text (file.detail_of f) ++ codes "\n" ++ cause_line f
 
 -- the program stopped by the fault of this number
 abbrev pub stop_line : ℕ → List ℕ
 stop_line n = codes "vault: stopped " ++ decimal n ++ codes "\n"
+
+-- the line behind it that says which list can't be read, if one can't
+abbrev pub unread_line : Stop → List ℕ
+unread_line (Unread about kind.OutOfMemory) = []
+unread_line (Unread subject.Rights why) = codes "vault: RIGHTS can't be read\n"
+unread_line (Unread subject.Merchants why) = codes "vault: LIST can't be read\n"
+unread_line stop = []
 
 -- What is said on a stream as a run ends: nothing, so that it is as it was, or these bytes, unless it fails.
 pub record Said : Type 1 where
@@ -111,7 +132,8 @@ SaysAtMost said Is line_of = said.nothing ⊎ ((x : _) × Is x × said.bytes (li
 -- A version and a refusal are said on the output, and what else stands in the way of a job on the errors; the
 -- other stream stays as it was, and at the end of a job, and of a batch with refused rows, both do. Beside a
 -- job's line it is said what is to be noted, and beside a refusal which word is no name or no right, or which
--- list isn't whole. Behind the line of bad words it is said why they are.
+-- list isn't whole. Behind the line of bad words it is said why they are, behind 34 its cause, and behind the
+-- stop of a list that can't be read which one it is.
 abbrev pub Says : List ℕ → Ending → Said → Said → Type 0
 Says why Done output errors = output.nothing × errors.nothing
 Says why (Noted note) output errors = output.nothing × errors.bytes (note_line note)
@@ -123,5 +145,6 @@ Says why (Unfinished about) output errors =
     output.bytes (refusal_line (number_of NotToml)) × errors.bytes (unfinished_line about)
 Says why SomeRefused output errors = output.nothing × errors.nothing
 Says why BadWords output errors = output.nothing × errors.bytes (bad_words_line ++ why)
-Says why (NotOpened f) output errors = output.nothing × errors.bytes (not_opened_line f)
-Says why (Stopped s) output errors = output.nothing × errors.bytes (stop_line (number_of (refusal_of s)))
+Says why (NotOpened f) output errors = output.nothing × errors.bytes (not_opened_lines f)
+Says why (Stopped s) output errors =
+    output.nothing × errors.bytes (stop_line (number_of (refusal_of s)) ++ unread_line s)

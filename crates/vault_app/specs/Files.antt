@@ -13,6 +13,8 @@ use Rattle.vault_recover.specs.Crashed.{Reopens, ReopensEither}
 use Rattle.vault_schema.specs.Holds.{Holds}
 use Rattle.vault_file.specs.Found.{MayFindNone, OpensFrom, RefusesRightly, Stays, StaysWhole}
 use Rattle.vault_file.specs.Paths.{Each}
+use Rattle.vault_file.specs.Refused.{IsRefusedBy}
+use Rattle.vault_recover.specs.declared.unopened.Unopened.TheVariants.{Missing}
 use Rattle.vault_file.specs.declared.fault.NotOpened.{NotOpened as FileFault}
 use Rattle.vault_file.specs.declared.fault.NotOpened.TheVariants as file
 use Rattle.vault_verdict.specs.declared.fault.OpenFault.TheVariants.{Memory}
@@ -47,11 +49,11 @@ ending_for (Err stop) it = Stopped stop
 abbrev pub IsShow : Task → Type 0
 IsShow t = (it : Shown) × (t ≡ Show it)
 
--- Why the files at a path aren't opened where none are left: an open of the path may fail; or the task only
+-- Why the files at a path aren't opened if none are left: an open of the path may fail so; or the task only
 -- says what is there, and nothing is, or memory was refused while that was looked at.
 abbrev pub LeavesAlone : World → List ℕ → Task → FileFault → Type 0
 LeavesAlone world path task why =
-    (why ≡ file.Refused) × (world.refuses path ⊎ IsShow task × world.lacks path)
+    IsRefusedBy (world.refuses path) why ⊎ (why ≡ file.Refused Missing) × IsShow task × world.lacks path
     ⊎ (why ≡ file.Fault Memory) × IsShow task
 
 module _ {D : Type 0} {g : Ghosts D} where

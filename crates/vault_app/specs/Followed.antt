@@ -37,10 +37,10 @@ abbrev pub IsUnfinishedAt : World → Option (Bor (List ℕ)) → Type 0
 IsUnfinishedAt world None = ⊥
 IsUnfinishedAt world (Some path) = (text : List ℕ) × world.looks path.now 0 text × (is_whole text ≡ false)
 
--- it stops for want of a moment, or of memory for the list
-abbrev pub HasNoMoment : Ending → Type 0
-HasNoMoment ending = EndsSo (record no_ending {
-  stopped = λ s. (s ≡ stop.Service service.Source) ⊎ ((why : ErrorKind) × (s ≡ stop.Rights why));
+-- it stops for want of a moment, or of memory for the list of this
+abbrev pub HasNoMoment : Subject → Ending → Type 0
+HasNoMoment about ending = EndsSo (record no_ending {
+  stopped = λ s. (s ≡ stop.Service service.Source) ⊎ ((why : ErrorKind) × (s ≡ stop.Unread about why));
 }) ending
 
 -- How a job ends without the list of this that the words name: it is refused, isn't whole, or isn't read; or
@@ -50,5 +50,5 @@ EndsUnfollowed about faults world path ending = EndsSo (record no_ending {
   refused = IsFaultyAt faults world path;
   unfinished = λ it. (it ≡ about) × IsUnfinishedAt world path;
   stopped = λ s. (s ≡ stop.Service service.Source) × IsSome path
-      ⊎ ((why : ErrorKind) × (s ≡ stop.Rights why)) × IsSome path;
+      ⊎ ((why : ErrorKind) × (s ≡ stop.Unread about why)) × IsSome path;
 }) ending

@@ -9,6 +9,7 @@ use Rattle.sqlite_store.specs.declared.store.FileStore.{FileStore}
 use Rattle.vault_core.specs.Vault.{empty_vault}
 use Rattle.vault_file.specs.Found.{ChecksAs, RefusesRightly, Stays, StaysWhole}
 use Rattle.vault_file.specs.Paths.{Each}
+use Rattle.vault_file.specs.Refused.{IsRefusedBy}
 use Rattle.vault_file.specs.Moved.{MovesAs, StaysUnmoved}
 use Rattle.vault_verdict.specs.declared.fault.OpenFault.TheVariants.{Memory}
 use Rattle.vault_file.specs.declared.fault.NotOpened.{NotOpened as FileFault}
@@ -43,7 +44,7 @@ module _ {D : Type 0} {g : Ghosts D} where
       (IsClean (view left) → RefusesRightly image why) × StaysWhole image left × Stays image left)
   IsChecked world path None (Ok sizes) = (sizes ≡ sizes_of empty_vault) × world.lacks path
   IsChecked world path None (Err why) =
-      (why ≡ file.Refused) × world.refuses path ⊎ (why ≡ file.Fault Memory)
+      IsRefusedBy (world.refuses path) why ⊎ (why ≡ file.Fault Memory)
 
   -- What a migration of them comes to. One that is refused by another number than 33 leaves whatever is in
   -- the files, and so does one by 33 where there is no older version's table.
@@ -52,7 +53,7 @@ module _ {D : Type 0} {g : Ghosts D} where
   IsMoved world path (Some left) (Err why) =
       Each (world.holds path) (λ image. StaysUnmoved image left why)
   IsMoved world path None (Ok version) = ⊥
-  IsMoved world path None (Err why) = (why ≡ file.Refused) × world.refuses path
+  IsMoved world path None (Err why) = IsRefusedBy (world.refuses path) why
 
   -- what a plan does with the files at its path, and which files it leaves
   abbrev pub DoesPlan : World → Option (FileStore D g) → Plan → Ending → Seen → Type 0

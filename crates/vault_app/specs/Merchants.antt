@@ -7,6 +7,7 @@ use Rattle.vault_merchants.specs.Faults.{IsFault, refusal_of}
 use Rattle.vault_merchants.specs.ListedMerchants.{AreListed, Wanted}
 use Rattle.vault_merchants.specs.declared.fault.MerchantsFault.{MerchantsFault}
 use Rattle.vault_jobs.specs.declared.stop.Stop.TheVariants as stop
+use Rattle.vault_live.specs.declared.subject.Subject.TheVariants as subject
 use Rattle.vault_app.specs.Endings.{EndsSo, no_ending}
 use Rattle.vault_app.specs.declared.ending.Ending.{Ending}
 
@@ -27,5 +28,5 @@ IsRefusedList says n = (text : List ℕ) × (fault : MerchantsFault) × says tex
 abbrev pub EndsWithoutMerchants : (List ℕ → Type 0) → Ending → Type 0
 EndsWithoutMerchants says ending = EndsSo (record no_ending {
   refused = IsRefusedList says;
-  stopped = λ s. (why : ErrorKind) × (s ≡ stop.Rights why);
+  stopped = λ s. (why : ErrorKind) × (s ≡ stop.Unread subject.Merchants why);
 }) ending

@@ -87,7 +87,7 @@ EndsBefore world job ending = EndsSo (record no_ending {
   refused = (saying job).refused world;
   unfinished = λ about. IsUnfinished world about job;
   stopped = λ s. (s ≡ stop.Service service.Source) × (saying job).needs_moment
-      ⊎ ((why : ErrorKind) × (s ≡ stop.Rights why)) × (saying job).has_list;
+      ⊎ ((about : Subject) × (why : ErrorKind) × (s ≡ stop.Unread about why) × (saying job).has_list about);
 }) ending
 
 -- the task that the words of a job ask for, or how it may end without a plan

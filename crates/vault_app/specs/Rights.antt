@@ -9,6 +9,7 @@ use Rattle.vault_rights.specs.Named.{IsListOf, Names, Row}
 use Rattle.vault_rights.specs.Proper.{IsProper}
 use Rattle.vault_rights.specs.declared.fault.RightsFault.{RightsFault}
 use Rattle.vault_jobs.specs.declared.stop.Stop.TheVariants as stop
+use Rattle.vault_live.specs.declared.subject.Subject.TheVariants as subject
 use Rattle.vault_app.specs.Endings.{EndsSo, no_ending}
 use Rattle.vault_app.specs.declared.ending.Ending.{Ending}
 
@@ -31,5 +32,5 @@ IsRefusedText says n = (text : List ℕ) × (fault : RightsFault) × says text
 abbrev pub IsUnlisted : (List ℕ → Type 0) → Ending → Type 0
 IsUnlisted says ending = EndsSo (record no_ending {
   refused = IsRefusedText says;
-  stopped = λ s. (why : ErrorKind) × (s ≡ stop.Rights why);
+  stopped = λ s. (why : ErrorKind) × (s ≡ stop.Unread subject.Rights why);
 }) ending

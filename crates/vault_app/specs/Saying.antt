@@ -43,15 +43,15 @@ path_of (OfTask path Is) = Some path.now
 
 -- What is said of a job: that its lives are lives; which of its words is the first that is no name, or no
 -- right; by which number it may be refused in a world before there is a plan, for the text of its list; which
--- of its lists isn't whole there; that it may be stopped for want of a moment; that its rights stand in a
--- list; and what it is for.
+-- of its lists isn't whole there; that it may be stopped for want of a moment; that it
+-- has a list of this; and what it is for.
 pub record Saying : Type 1 where
   pub lives : Type 0
   pub misnamed : Placeholder → Type 0
   pub refused : World → ℕ → Type 0
   pub unfinished : World → Subject → Type 0
   pub needs_moment : Type 0
-  pub has_list : Type 0
+  pub has_list : Subject → Type 0
   pub purpose : Purpose
 
 -- a job for this that has no lives, is never refused early, and needs no moment and no list
@@ -62,6 +62,6 @@ quiet purpose = record {
   refused = λ world n. ⊥;
   unfinished = λ world about. ⊥;
   needs_moment = ⊥;
-  has_list = ⊥;
+  has_list = λ about. ⊥;
   purpose = purpose;
 }

@@ -2,19 +2,20 @@
 use Rattle.std.specs.Prelude.{ℕ, Bool, List}
 use Rattle.sqlite_wal.specs.Recovery.{Image}
 use Rattle.vault_file.specs.declared.paths.Paths.{Ghosts}
+use Rattle.vault_recover.specs.declared.unopened.Unopened.{Unopened}
 use Rattle.vault_listen.specs.Live.{Turns}
 use Rattle.vault_live.specs.Following.{Looks}
 use Rattle.vault_jobs.specs.Outside.{Outside, outside}
 
 -- Which moments are told at which turn; and of each path which text its file had at which look of a service,
--- which bytes its files may hold, that nothing is there, that an open of it may fail, which text it may have,
+-- which bytes its files may hold, that nothing is there, that an open of it may fail so, which text it may have,
 -- and whether its file has a log.
 pub record World : Type 1 where
   pub tells : Turns
   pub looks : List ℕ → Looks
   pub holds : List ℕ → Image → Type 0
   pub lacks : List ℕ → Type 0
-  pub refuses : List ℕ → Type 0
+  pub refuses : List ℕ → Unopened → Type 0
   pub says : List ℕ → List ℕ → Type 0
   pub logs : List ℕ → Bool → Type 0
 
@@ -41,7 +42,7 @@ untold = record {
   looks = λ path look text. ⊥;
   holds = λ path image. ⊥;
   lacks = λ path. ⊥;
-  refuses = λ path. ⊥;
+  refuses = λ path cause. ⊥;
   says = λ path text. ⊥;
   logs = λ path log. ⊥;
 }
@@ -65,7 +66,7 @@ anything = record {
   looks = λ path look text. Unit {0};
   holds = λ path image. Unit {0};
   lacks = λ path. Unit {0};
-  refuses = λ path. Unit {0};
+  refuses = λ path cause. Unit {0};
   says = λ path text. Unit {0};
   logs = λ path log. Unit {0};
 }

@@ -20,6 +20,7 @@ use vault_listen::network::Network;
 use vault_listen::time::Timekeeper;
 use vault_live::desk::Desk;
 use vault_recover::options::Cache;
+use vault_recover::unopened::Unopened;
 use vault_verdict::fault::OpenFault;
 use vault_wire::watched::Watched;
 
@@ -82,7 +83,7 @@ pub(crate) fn do_on_file<P: Paths, K: Timekeeper, N: Network, D: Desk, R: Read, 
 {
     if only_shows(task) {
         match paths.is_empty(rt, path) {
-            Ok(true) => return (Ending::NotOpened(NotOpened::Refused), None),
+            Ok(true) => return (Ending::NotOpened(NotOpened::Refused(Unopened::Missing)), None),
             Ok(false) => {}
             Err(_) => return (Ending::NotOpened(NotOpened::Fault(OpenFault::Memory)), None),
         }

@@ -159,7 +159,8 @@ fn ended<P: Paths, K: Timekeeper, N: Network, D: Desk, A: AsStr, R: Read, W: Wri
 ///
 /// The first word is the program's name. A line on the output or on the errors goes with each status but 0:
 /// `refused n`, `vault: bad words` with lines that say why, `vault: file not opened n` or `n m`,
-/// `vault: stopped n`. Beside `refused n` the errors say which word is no name or no right, if one is none, or
+/// `vault: stopped n`. Behind 34 stands its cause, and behind the stop of a list that can't be read which one it
+/// is. Beside `refused n` the errors say which word is no name or no right, if one is none, or
 /// which list isn't whole.
 /// With 0 they say what is to be noted: that a checked file has a log, that there was no vault to move, that
 /// a merchant that was to be swept isn't known or is far behind the clock, or that there was nothing to

@@ -11,12 +11,12 @@ use Rattle.vault_verdict.specs.declared.fault.OpenFault.TheVariants.{WrongSchema
 
 -- the refusal that it is
 abbrev pub refusal_of : NotOpened → Refusal
-refusal_of Refused = refusal.FileRefused
+refusal_of (Refused cause) = refusal.FileRefused
 refusal_of (Fault fault) = opening.refusal_of fault
 
 -- the version that the file says, or the rule that its rows break
 abbrev pub detail_of : NotOpened → Option ℤ
-detail_of Refused = None
+detail_of (Refused cause) = None
 detail_of (Fault (WrongSchema version)) = Some version
 detail_of (Fault (Damaged rule)) = Some (pos rule)
 detail_of (Fault Memory) = None

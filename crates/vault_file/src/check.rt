@@ -1,5 +1,5 @@
 //! The whole check of the file at a path.
-ghost use Rattle.std.specs.Prelude.{◌≡◌, ◌⊎◌, None, Err, IfOk, IfErr};
+ghost use Rattle.std.specs.Prelude.{◌≡◌, ◌⊎◌, None, IfOk, IfErr, IsErrAnd};
 ghost use Rattle.sqlite.specs.Files.{file_state};
 ghost use Rattle.sqlite.specs.State.{HasCleanDisk};
 ghost use Rattle.sqlite.specs.View.{IsClean};
@@ -9,7 +9,7 @@ ghost use Rattle.vault_core.specs.Vault.{Vault as Content, empty_vault};
 ghost use Rattle.vault_file.specs.Found.{ChecksAs, HoldsSuch, IsNoPath, IsVaultOf, LeavesFrom, LeavesWhole};
 ghost use Rattle.vault_file.specs.Found.{RefusesRightly, Stays, StaysWhole};
 ghost use Rattle.vault_file.specs.Paths.{Each};
-ghost use Rattle.vault_file.specs.Refused.{GivesBack, IsRefused, TellsWhereRefused, WhereDone, WhereGiven};
+ghost use Rattle.vault_file.specs.Refused.{GivesBack, IfRefused, IsRefusal, IsRefused, TellsWhereRefused, WhereDone, WhereGiven};
 ghost use Rattle.vault_file.specs.Refused.{WhereLeft, WhereShut};
 ghost use Rattle.vault_recover.specs.Crashed.{Keeps};
 ghost use Rattle.vault_schema.specs.Holds.{Holds};
@@ -43,15 +43,16 @@ pub fn check_from<P: Paths>(rt: &HostRuntime, path: &str, paths: P) -> Connected
     // on an honest disk, a crash leaves what was kept: a vault, one of two, or the empty one, made or not
     ensures left { WhereGiven result (P.holds paths path.now) LeavesFrom }
     ensures refused { GivesBack result }
-    // 34 comes only where an open of the files at the path may fail
-    ensures refused_there { IfErr result (λ e. e.0 ≡ NotOpened.Refused → P.refuses paths path.now) }
+    // 34 comes only if an open of the files at the path may fail so
+    ensures refused_there { IfErr result (λ e. IfRefused e.0 (P.refuses paths path.now)) }
     // on an honest disk, the refusal is right
     ensures rightly { TellsWhereRefused result (P.holds paths path.now) RefusesRightly }
     // on an honest disk, a crash leaves what was found in the bytes, and nothing else
     ensures same { WhereGiven result (P.holds paths path.now) LeavesWhole }
 {
-    let Some(mut conn) = paths.open(rt, path, Cache::Small) else {
-        return Err((NotOpened::Refused, None));
+    let mut conn = match paths.open(rt, path, Cache::Small) {
+        Ok(conn) => conn,
+        Err(cause) => return Err((NotOpened::Refused(cause), None)),
     };
     settled(&conn);
     // What a crash leaves of a check follows by cases of these.
@@ -74,16 +75,16 @@ const EMPTY: Sizes = Sizes {
 /// nothing is made or written. Refused by 32 also where memory is refused while that is looked at.
 pub fn check_file<P: Paths>(rt: &HostRuntime, path: &str, paths: P) -> Closed<P, Sizes>
     // words that name no file are refused by 34
-    ensures no_path { IsNoPath path.now → result.0 ≡ Err NotOpened.Refused }
+    ensures no_path { IsNoPath path.now → IsErrAnd result.0 IsRefusal }
     // with Ok and no files, there is no file, or one without a byte and a log, and the sizes are those of the
     // empty vault
     ensures empty { result.1 ≡ None
         → IfOk result.0 (λ sizes. (sizes ≡ sizes_of empty_vault) × P.lacks paths path.now) }
     // 34 gives no files, and no other refusal but 32 for want of memory does
-    ensures refused { IfErr result.0 (λ why. (why ≡ NotOpened.Refused → result.1 ≡ None)
-        × (result.1 ≡ None → (why ≡ NotOpened.Refused) ⊎ (why ≡ NotOpened.Fault OpenFault.Memory))) }
-    // 34 comes only where an open of the files at the path may fail
-    ensures refused_there { result.0 ≡ Err NotOpened.Refused → P.refuses paths path.now }
+    ensures refused { IfErr result.0 (λ why. (IsRefusal why → result.1 ≡ None)
+        × (result.1 ≡ None → IsRefusal why ⊎ (why ≡ NotOpened.Fault OpenFault.Memory))) }
+    // 34 comes only if an open of the files at the path may fail so
+    ensures refused_there { IfErr result.0 (λ why. IfRefused why (P.refuses paths path.now)) }
     // with Ok and files, on an honest disk, the sizes are the vault's, if its rows are full, and a sound one
     // stays
     ensures sound { WhereDone result (P.holds paths path.now) ChecksAs }

@@ -3,14 +3,15 @@ ghost use Rattle.std.specs.Prelude.{◌≡◌};
 ghost use Rattle.vault_file.specs.Faults.{detail_of, refusal_of};
 
 use std::fmt;
+use vault_recover::unopened::Unopened;
 use vault_refusal::refusal::Refusal;
 use vault_verdict::fault::OpenFault;
 
 /// Why no vault is opened from the file at a path.
 #[derive(Clone, Copy, Debug, PartialEq, Eq, Drop)]
 pub enum NotOpened {
-    /// 34: the database or the host refuses the file itself.
-    Refused,
+    /// 34: the database or the host refuses the file itself, for this.
+    Refused(Unopened),
     /// 30 to 33: the file is opened, and what it holds is refused.
     Fault(OpenFault),
 }
@@ -21,7 +22,7 @@ impl NotOpened {
         ensures { result ≡ refusal_of self.now }
     {
         match self {
-            NotOpened::Refused => Refusal::FileRefused,
+            NotOpened::Refused(_) => Refusal::FileRefused,
             NotOpened::Fault(fault) => fault.refusal(),
         }
     }
@@ -33,7 +34,7 @@ impl NotOpened {
         match self {
             NotOpened::Fault(OpenFault::WrongSchema(version)) => Some(*version),
             NotOpened::Fault(OpenFault::Damaged(rule)) => Some(i64::from(*rule)),
-            NotOpened::Fault(OpenFault::Memory | OpenFault::Store) | NotOpened::Refused => None,
+            NotOpened::Fault(OpenFault::Memory | OpenFault::Store) | NotOpened::Refused(_) => None,
         }
     }
 }

@@ -7,6 +7,7 @@ use vault_blank::log::has_log;
 use vault_blank::make::{is_empty, make_blank};
 use vault_recover::options::Cache;
 use vault_recover::reopen::open_path;
+use vault_recover::unopened::Unopened;
 
 /// The paths of the host.
 ///
@@ -34,7 +35,7 @@ impl<S: Start> Paths for HostPaths<S> {
 
     ghost lacks = { λ _ _. Unit {0} };
 
-    ghost refuses = { λ _ _. Unit {0} };
+    ghost refuses = { λ _ _ _. Unit {0} };
 
     ghost says = { λ _ _ _. Unit {0} };
 
@@ -57,16 +58,16 @@ impl<S: Start> Paths for HostPaths<S> {
         rt: &HostRuntime,
         path: &str,
         cache: Cache,
-    ) -> Option<Connection<FileStore<FileFrom<S>>>> {
+    ) -> Result<Connection<FileStore<FileFrom<S>>>, Unopened> {
         if is_no_path(path) {
-            return None;
+            return Err(Unopened::Host);
         }
         match make_blank(rt, path) {
             Ok(_) => match open_path(rt, path, self.start, cache) {
-                Some(conn) => Some(conn),
-                None => None,
+                Ok(conn) => Ok(conn),
+                Err(cause) => Err(cause),
             },
-            Err(_) => None,
+            Err(error) => Err(Unopened::of_host(&error)),
         }
     }
 }

@@ -1,9 +1,9 @@
 //! The file at a path moves to the newest schema.
-ghost use Rattle.std.specs.Prelude.{◌≡◌, ◌↔◌, None, Err, IfOk, IfErr};
+ghost use Rattle.std.specs.Prelude.{◌≡◌, ◌↔◌, None, IfOk, IfErr, IsErrAnd};
 ghost use Rattle.vault_file.specs.Found.{IsNoPath};
 ghost use Rattle.vault_file.specs.Moved.{LeavesUnmoved, MovesAs, MovesFrom, RefusesMove, StaysUnmoved};
 ghost use Rattle.vault_file.specs.Paths.{Each};
-ghost use Rattle.vault_file.specs.Refused.{GivesBack, IsRefused, TellsWhereRefused, WhereDone, WhereLeft};
+ghost use Rattle.vault_file.specs.Refused.{GivesBack, IfRefused, IsRefusal, IsRefused, TellsWhereRefused, WhereDone, WhereLeft};
 ghost use Rattle.vault_file.specs.Refused.{WhereRefused};
 ghost use Rattle.vault_schema.specs.Versions.{newest, number_of};
 
@@ -27,15 +27,16 @@ pub fn migrate_from<P: Paths>(rt: &HostRuntime, path: &str, paths: P) -> Connect
     // with Ok, on an honest disk, a vault that the bytes kept in whatever version is held in the newest one
     ensures moved { IfOk result (λ told. Each (P.holds paths path.now) (λ image. MovesFrom image told.1)) }
     ensures refused { GivesBack result }
-    // 34 comes only where an open of the files at the path may fail
-    ensures refused_there { IfErr result (λ e. e.0 ≡ NotOpened.Refused → P.refuses paths path.now) }
+    // 34 comes only if an open of the files at the path may fail so
+    ensures refused_there { IfErr result (λ e. IfRefused e.0 (P.refuses paths path.now)) }
     // on an honest disk, the refusal is right
     ensures rightly { TellsWhereRefused result (P.holds paths path.now) RefusesMove }
     // after a refusal on an honest disk, a crash leaves what was kept; any number but 33 writes nothing
     ensures left { WhereRefused result (P.holds paths path.now) LeavesUnmoved }
 {
-    let Some(mut conn) = paths.open(rt, path, Cache::Moved) else {
-        return Err((NotOpened::Refused, None));
+    let mut conn = match paths.open(rt, path, Cache::Moved) {
+        Ok(conn) => conn,
+        Err(cause) => return Err((NotOpened::Refused(cause), None)),
     };
     settled(&conn);
     match migrate_all(rt.alloc(), &mut conn) {
@@ -48,11 +49,11 @@ pub fn migrate_from<P: Paths>(rt: &HostRuntime, path: &str, paths: P) -> Connect
 /// where there are some.
 pub fn migrate_file<P: Paths>(rt: &HostRuntime, path: &str, paths: P) -> Closed<P, i64>
     // words that name no file are refused by 34
-    ensures no_path { IsNoPath path.now → result.0 ≡ Err NotOpened.Refused }
+    ensures no_path { IsNoPath path.now → IsErrAnd result.0 IsRefusal }
     // 34, and nothing else, gives no files
-    ensures refused { (result.1 ≡ None) ↔ (result.0 ≡ Err NotOpened.Refused) }
-    // 34 comes only where an open of the files at the path may fail
-    ensures refused_there { result.0 ≡ Err NotOpened.Refused → P.refuses paths path.now }
+    ensures refused { (result.1 ≡ None) ↔ IsErrAnd result.0 IsRefusal }
+    // 34 comes only if an open of the files at the path may fail so
+    ensures refused_there { IfErr result.0 (λ why. IfRefused why (P.refuses paths path.now)) }
     // Ok says the newest version
     ensures version { IfOk result.0 (λ version. version ≡ number_of newest) }
     // with Ok, on an honest disk, a vault that the bytes kept in whatever version the files keep in the

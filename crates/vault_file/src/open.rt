@@ -1,8 +1,8 @@
 //! The vault in the file at a path is opened, and closed.
-ghost use Rattle.std.specs.Prelude.{◌≡◌, false, None, Err, IfOk, IfErr};
+ghost use Rattle.std.specs.Prelude.{◌≡◌, false, IfOk, IfErr};
 ghost use Rattle.sqlite.specs.View.{IsClean};
 ghost use Rattle.sqlite_store.specs.FileStore.{view};
-ghost use Rattle.vault_file.specs.Refused.{GivesBack, IsRefused, TellsWhereRefused, WhereRefused};
+ghost use Rattle.vault_file.specs.Refused.{GivesBack, IfRefused, IsRefused, TellsWhereRefused, WhereRefused};
 ghost use Rattle.vault_file.specs.Found.{IsNoPath, LeavesWhole, LeavesFrom, MayFindNone};
 ghost use Rattle.vault_file.specs.Found.{OpensFrom, RefusesRightly, Stays, StaysWhole};
 ghost use Rattle.vault_file.specs.Paths.{Each};
@@ -46,8 +46,8 @@ pub fn open_from<P: Paths>(
     ensures found { IfOk result (λ vault. Each (P.holds paths path.now)
         (λ image. OpensFrom image (tables_of vault).conn)) }
     ensures refused { GivesBack result }
-    // 34 comes only where an open of the files at the path may fail
-    ensures refused_there { IfErr result (λ e. e.0 ≡ NotOpened.Refused → P.refuses paths path.now) }
+    // 34 comes only if an open of the files at the path may fail so
+    ensures refused_there { IfErr result (λ e. IfRefused e.0 (P.refuses paths path.now)) }
     // on an honest disk, the refusal is right
     ensures rightly { TellsWhereRefused result (P.holds paths path.now) RefusesRightly }
     // after a refusal on an honest disk, crashes leave what was kept: a vault, one of two, or the empty one,
@@ -58,8 +58,9 @@ pub fn open_from<P: Paths>(
     ensures same { WhereRefused result (P.holds paths path.now)
         (λ image why conn. ¬ MayFindNone image → LeavesWhole image conn) }
 {
-    let Some(conn) = paths.open(rt, path, cache) else {
-        return Err((NotOpened::Refused, None));
+    let conn = match paths.open(rt, path, cache) {
+        Ok(conn) => conn,
+        Err(cause) => return Err((NotOpened::Refused(cause), None)),
     };
     settled(&conn);
     // What a crash leaves of a refusal follows by cases of these.
@@ -86,8 +87,8 @@ pub fn open_vault<P: Paths>(
     ensures found { IfOk result (λ vault. Each (P.holds paths path.now)
         (λ image. OpensFrom image (tables_of vault).conn)) }
     ensures refused { GivesBack result }
-    // 34 comes only where an open of the files at the path may fail
-    ensures refused_there { IfErr result (λ e. e.0 ≡ NotOpened.Refused → P.refuses paths path.now) }
+    // 34 comes only if an open of the files at the path may fail so
+    ensures refused_there { IfErr result (λ e. IfRefused e.0 (P.refuses paths path.now)) }
     // on an honest disk, the refusal is right
     ensures rightly { WhereRefused result (P.holds paths path.now)
         (λ image why left. IsClean (view left) → RefusesRightly image why) }

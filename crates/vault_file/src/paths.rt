@@ -1,5 +1,5 @@
 //! What stands at the paths of a host.
-ghost use Rattle.std.specs.Prelude.{◌≡◌, ◌↔◌, false, None, IfOk, IfSome, IsTrue};
+ghost use Rattle.std.specs.Prelude.{◌≡◌, ◌↔◌, false, None, IfErr, IfOk, IsErr, IsTrue};
 ghost use Rattle.sqlite.specs.Files.{file_state};
 ghost use Rattle.sqlite.specs.State.{HasCleanDisk};
 ghost use Rattle.vault_core.specs.Vault.{Vault};
@@ -15,6 +15,7 @@ use sqlite_disk::Disk;
 use std::alloc::AllocError;
 use std::io;
 use vault_recover::options::Cache;
+use vault_recover::unopened::Unopened;
 
 /// Whether the words name no file: the database keeps `:memory:` and what begins with `file:` for itself.
 pub fn is_no_path(path: &str) -> bool
@@ -41,6 +42,7 @@ pub type Closed<P, X> = (Result<X, NotOpened>, Option<FileStore<<P as Paths>::Di
 pub trait Paths: Drop {
     ghost use Rattle.std.specs.Prelude.{ℕ, Bool, List};
     ghost use Rattle.sqlite_wal.specs.Recovery.{Image};
+    ghost use Rattle.vault_recover.specs.declared.unopened.Unopened.{Unopened};
 
     type Disk: Disk + Drop;
 
@@ -50,8 +52,8 @@ pub trait Paths: Drop {
     // nothing has the name, in a folder that is there, or a file without a byte and without a log has it
     ghost lacks: { Self → List ℕ → Type 0 };
 
-    // an open of the files at a path may fail
-    ghost refuses: { Self → List ℕ → Type 0 };
+    // an open of the files at a path may fail so
+    ghost refuses: { Self → List ℕ → Unopened → Type 0 };
 
     // the bytes of the file at a path are such a text
     ghost says: { Self → List ℕ → List ℕ → Type 0 };
@@ -80,25 +82,25 @@ pub trait Paths: Drop {
         rt: &HostRuntime,
         path: &str,
         cache: Cache,
-    ) -> Option<Connection<FileStore<Self::Disk>>>
+    ) -> Result<Connection<FileStore<Self::Disk>>, Unopened>
         // words that name no file aren't opened
-        ensures no_path { IsNoPath path.now → result ≡ None }
-        // where none is given, an open of the files at the path may fail
-        ensures refused { result ≡ None → refuses self path.now }
-        ensures idle { IfSome result (λ c. c.in_transaction ≡ false) }
-        ensures unlimited { IfSome result (λ c. c.step_limit ≡ None) }
+        ensures no_path { IsNoPath path.now → IsErr result }
+        // with Err, an open of the files at the path may fail so
+        ensures refused { IfErr result (refuses self path.now) }
+        ensures idle { IfOk result (λ c. c.in_transaction ≡ false) }
+        ensures unlimited { IfOk result (λ c. c.step_limit ≡ None) }
         // on an honest disk, the connection was just opened over the bytes at the path, and found what they
         // hold
-        ensures opened { IfSome result (λ c. Each (holds self path.now)
+        ensures opened { IfOk result (λ c. Each (holds self path.now)
             (λ image. HasCleanDisk (file_state c) → IsOpenOf image c)) }
         // on an honest disk, a vault that the bytes keep is held
-        ensures again { IfSome result (λ c. Each (holds self path.now) (λ image. HasCleanDisk (file_state c)
+        ensures again { IfOk result (λ c. Each (holds self path.now) (λ image. HasCleanDisk (file_state c)
             → (V : Vault) → Keeps image V → Holds (file_state c) V)) }
         // on an honest disk, where the bytes keep one of two vaults, one of them is held
-        ensures either { IfSome result (λ c. Each (holds self path.now) (λ image. HasCleanDisk (file_state c)
+        ensures either { IfOk result (λ c. Each (holds self path.now) (λ image. HasCleanDisk (file_state c)
             → (V W : Vault) → KeepsEither image V W → HoldsEither (file_state c) V W)) }
         // on an honest disk, where the bytes keep no table or the empty vault, no table is seen or the empty
         // vault is held
-        ensures first { IfSome result (λ c. Each (holds self path.now) (λ image. HasCleanDisk (file_state c)
+        ensures first { IfOk result (λ c. Each (holds self path.now) (λ image. HasCleanDisk (file_state c)
             → (before : _) → AreBlank before → KeepsFirst image before → HoldsFirst (file_state c) before)) };
 }

@@ -15,7 +15,7 @@ use Rattle.vault_listen.specs.Faults as listener
 use Rattle.vault_jobs.specs.Batched.{HasBadRecord}
 use Rattle.vault_jobs.specs.Streams.{Streams}
 use Rattle.vault_jobs.specs.declared.stop.Stop.{Stop}
-use Rattle.vault_jobs.specs.declared.stop.Stop.TheVariants.{Vault, Service, Listener, Rights, Batch}
+use Rattle.vault_jobs.specs.declared.stop.Stop.TheVariants.{Vault, Service, Listener, Unread, Batch}
 
 -- the refusal that stopped a job
 abbrev pub refusal_of : Stop → Refusal
@@ -23,8 +23,8 @@ refusal_of (Vault f) = vault.refusal_of f
 refusal_of (Service f) = service.refusal_of f
 refusal_of (Listener f) = listener.refusal_of f
 refusal_of (Batch f) = batch.refusal_of f
-refusal_of (Rights kind.OutOfMemory) = refusal.RightsMemory
-refusal_of (Rights refused) = refusal.Accept
+refusal_of (Unread about kind.OutOfMemory) = refusal.RightsMemory
+refusal_of (Unread about refused) = refusal.Accept
 
 -- a service is stopped by its reader only where that failed, and by its writer only where that failed
 abbrev pub IsCause : ServeFault → Bool → Bool → Type 0
@@ -49,5 +49,5 @@ abbrev pub IsCauseOf : Stop → Streams → Type 0
 IsCauseOf (Vault f) s = Unit {0}
 IsCauseOf (Service f) s = IsCause f s.reader s.writer
 IsCauseOf (Listener f) s = Unit {0}
-IsCauseOf (Rights f) s = Unit {0}
+IsCauseOf (Unread about f) s = Unit {0}
 IsCauseOf (Batch f) s = IsBatchCause f s

@@ -5,6 +5,7 @@ use std::io::ErrorKind;
 use vault_batch::fault::BatchFault;
 use vault_http::fault::{ServeFault, refusal_of};
 use vault_listen::fault::ListenFault;
+use vault_live::subject::Subject;
 use vault_refusal::refusal::Refusal;
 use vault_store::vault::Fault;
 
@@ -18,9 +19,9 @@ pub enum Stop {
     Service(ServeFault),
     /// 60, 63, 64 or 80: connections weren't all served.
     Listener(ListenFault),
-    /// The list of rights or of merchants wasn't read: 74 where memory was refused, 80 where the host refuses
-    /// the file.
-    Rights(ErrorKind),
+    /// The list of rights, or of merchants, wasn't read: 74 if memory was refused, 80 if the host refuses the
+    /// file.
+    Unread(Subject, ErrorKind),
     /// 40 to 46: rows weren't all answered.
     Batch(BatchFault),
 }
@@ -37,8 +38,8 @@ impl Stop {
             Stop::Service(fault) => refusal_of(fault),
             Stop::Listener(fault) => fault.refusal(),
             Stop::Batch(fault) => fault.refusal(),
-            Stop::Rights(ErrorKind::OutOfMemory) => Refusal::RightsMemory,
-            Stop::Rights(_) => Refusal::Accept,
+            Stop::Unread(_, ErrorKind::OutOfMemory) => Refusal::RightsMemory,
+            Stop::Unread(_, _) => Refusal::Accept,
         }
     }
 }

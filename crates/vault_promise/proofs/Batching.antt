@@ -287,7 +287,7 @@ module _ (around : Outside) (who : Asker) (now : Option ℕ) (digits : Option (L
   batch_works (Err (stop.Vault f)) fin unread unsent quiet h = absurd h
   batch_works (Err (stop.Service f)) fin unread unsent quiet h = absurd h
   batch_works (Err (stop.Listener f)) fin unread unsent quiet h = absurd h
-  batch_works (Err (stop.Rights f)) fin unread unsent quiet h = absurd h
+  batch_works (Err (stop.Unread about f)) fin unread unsent quiet h = absurd h
   batch_works (Err (stop.Batch f)) fin unread unsent quiet (inl (is, calm, silent, same)) =
       let nil : AreGiven tells now digits [] = none_given tells now digits in
       none [] nil (λ d. cc (fin d)) (quiet_went [] nil (quiet silent)) (same V b).1

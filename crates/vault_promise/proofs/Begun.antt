@@ -141,7 +141,7 @@ module _ (at : Outside) (w : Passage) (V : Content) (b : IsBefore w V) (sound : 
       by_end (Err (stop.Vault Reopen)) fin (silent, h) = absurd (h V b)
       by_end (Err (stop.Service f)) fin h = absurd h
       by_end (Err (stop.Listener f)) fin h = absurd h
-      by_end (Err (stop.Rights f)) fin h = absurd h
+      by_end (Err (stop.Unread about f)) fin h = absurd h
       by_end (Err (stop.Batch f)) fin h = absurd h
 
 -- a service that may follow lists

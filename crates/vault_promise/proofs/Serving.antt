@@ -399,7 +399,7 @@ module _ (tells : Turns) (asks other : Asking) (fine : AsksProper asks)
         all_kept (subst (λ us. AllKept tells asks us w) (sym none) it)
     serve_works port connections (Err (stop.Listener listener.Accept)) unsent s (inr (says, (few, it))) =
         all_kept it
-    serve_works port connections (Err (stop.Rights f)) unsent s h = absurd h
+    serve_works port connections (Err (stop.Unread about f)) unsent s h = absurd h
     serve_works port connections (Err (stop.Batch f)) unsent s h = absurd h
 
 -- a service that is done took as many connections as it was to, and said where it listens
@@ -429,7 +429,7 @@ turns_said tells asks port connections w (Err (stop.Service f)) unsent s quiet
 turns_said tells asks port connections w (Err (stop.Listener f)) unsent s quiet
     (inl (is, silent, same, none)) = inl (none, (port, λ some. refl, (0, quiet silent)))
 turns_said tells asks port connections w (Err (stop.Listener f)) unsent s quiet (inr (says, it)) = inr says
-turns_said tells asks port connections w (Err (stop.Rights f)) unsent s quiet h = absurd h
+turns_said tells asks port connections w (Err (stop.Unread about f)) unsent s quiet h = absurd h
 turns_said tells asks port connections w (Err (stop.Batch f)) unsent s quiet h = absurd h
 
 -- what a list may ask for is proper

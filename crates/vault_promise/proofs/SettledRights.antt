@@ -132,5 +132,5 @@ module _ (at : Outside) (w : Passage) (V : Content) (b : IsBefore w V) (sound : 
     left = (same V b).1;
   }
   show_works it (Err (stop.Listener f)) fin h = absurd h
-  show_works it (Err (stop.Rights f)) fin h = absurd h
+  show_works it (Err (stop.Unread about f)) fin h = absurd h
   show_works it (Err (stop.Batch f)) fin h = absurd h

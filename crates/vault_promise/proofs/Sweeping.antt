@@ -144,7 +144,7 @@ module _ (who : Asker) (now : ℕ) (named : IsName who.caller) (at : IsName who.
           purged h.2.1.0 it.0 it.3.1 (inr (it.1, subst (λ n. WentPart s (purged_line n)) it.2 h.2.2))
           (λ d. absurd (cc (fin d)))
       sweep_works (Err (stop.Listener f)) fin h = absurd h
-      sweep_works (Err (stop.Rights f)) fin h = absurd h
+      sweep_works (Err (stop.Unread about f)) fin h = absurd h
       sweep_works (Err (stop.Batch f)) fin h = absurd h
 
     -- one that may not, or whose merchant wasn't read

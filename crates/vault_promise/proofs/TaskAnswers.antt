@@ -139,7 +139,7 @@ module _ (at : Outside) (w : Passage) (V : Content) (b : IsBefore w V) (s : Stre
     change_works (Err (stop.Service f)) fin (is, failed, carried, part) =
         change_done carried part (λ d. absurd (cc (fin d)))
     change_works (Err (stop.Listener f)) fin h = absurd h
-    change_works (Err (stop.Rights f)) fin h = absurd h
+    change_works (Err (stop.Unread about f)) fin h = absurd h
     change_works (Err (stop.Batch f)) fin h = absurd h
 
 -- the first of proper commands are
@@ -240,5 +240,5 @@ module _ (at : Outside) (w : Passage) (V : Content) (b : IsBefore w V) (s : Stre
     commands_works (Err (stop.Service f)) fin (is, failed, carried, part) =
         all_works carried part (λ d. absurd (cc (fin d)))
     commands_works (Err (stop.Listener f)) fin h = absurd h
-    commands_works (Err (stop.Rights f)) fin h = absurd h
+    commands_works (Err (stop.Unread about f)) fin h = absurd h
     commands_works (Err (stop.Batch f)) fin h = absurd h

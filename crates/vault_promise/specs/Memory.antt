@@ -28,7 +28,7 @@ memory_world tells looks image = record untold {
   tells = tells;
   looks = looks;
   holds = λ path found. found ≡ image;
-  refuses = λ path. Unit {0};
+  refuses = λ path cause. Unit {0};
   says = λ path text. Unit {0};
   logs = λ path log. Unit {0};
 }

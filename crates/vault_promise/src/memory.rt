@@ -8,6 +8,7 @@ use std::io::ErrorKind;
 use vault_file::paths::{Paths, is_no_path};
 use vault_recover::options::Cache;
 use vault_recover::reopen::open_files;
+use vault_recover::unopened::Unopened;
 
 /// Files in memory that lie at every path.
 #[derive(Drop)]
@@ -26,7 +27,7 @@ impl Paths for MemoryPaths {
 
     ghost lacks = { λ _ _. ⊥ };
 
-    ghost refuses = { λ _ _. Unit {0} };
+    ghost refuses = { λ _ _ _. Unit {0} };
 
     ghost says = { λ _ _ _. Unit {0} };
 
@@ -49,13 +50,13 @@ impl Paths for MemoryPaths {
         rt: &HostRuntime,
         path: &str,
         _cache: Cache,
-    ) -> Option<Connection<FileStore<Memory>>> {
+    ) -> Result<Connection<FileStore<Memory>>, Unopened> {
         if is_no_path(path) {
-            return None;
+            return Err(Unopened::Host);
         }
         match open_files(rt.alloc(), self.files) {
-            Some(conn) => Some(conn),
-            None => None,
+            Some(conn) => Ok(conn),
+            None => Err(Unopened::Damaged),
         }
     }
 }

@@ -1,2 +1,3 @@
 pub mod Crashed
 pub mod Histories
+pub mod Unopened

@@ -5,3 +5,4 @@ mod cached;
 pub mod laws;
 pub mod options;
 pub mod reopen;
+pub mod unopened;

@@ -9,6 +9,7 @@ use Rattle.vault_jobs.specs.declared.task.Task.{Task}
 use Rattle.vault_jobs.specs.declared.task.Task.TheVariants as task
 use Rattle.vault_app.specs.Merchants.{AreMerchantsOf, IsRefusedList}
 use Rattle.vault_app.specs.Saying.{OfTask, Saying, quiet}
+use Rattle.vault_live.specs.declared.subject.Subject.TheVariants.{Merchants}
 use Rattle.vault_app.specs.World.{World}
 
 -- the task of a list of merchants: they are set, or what would change is said
@@ -28,5 +29,5 @@ abbrev pub merchants_says : MerchantsJob → Saying
 merchants_says j = record (quiet (OfTask j.file (IsTaskOfMerchants j))) {
   refused = λ world n. IsRefusedList (world.says j.list.now) n;
   needs_moment = j.now ≡ None;
-  has_list = Unit {0};
+  has_list = λ about. about ≡ Merchants;
 }

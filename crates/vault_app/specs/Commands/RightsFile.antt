@@ -7,6 +7,7 @@ use Rattle.vault_jobs.specs.Moments.{IsMomentOf}
 use Rattle.vault_jobs.specs.declared.show.Shown.TheVariants as show
 use Rattle.vault_jobs.specs.declared.task.Task.{Task}
 use Rattle.vault_jobs.specs.declared.task.Task.TheVariants as task
+use Rattle.vault_live.specs.declared.subject.Subject.TheVariants.{Rights}
 use Rattle.vault_app.specs.Rights.{IsListed, IsRefusedText}
 use Rattle.vault_app.specs.Saying.{OfTask, Saying, quiet}
 use Rattle.vault_app.specs.World.{World}
@@ -28,5 +29,5 @@ abbrev pub rights_says : RightsFileJob → Saying
 rights_says j = record (quiet (OfTask j.file (IsTaskOfList j))) {
   refused = λ world n. IsRefusedText (world.says j.rights.now) n;
   needs_moment = j.now ≡ None;
-  has_list = Unit {0};
+  has_list = λ about. about ≡ Rights;
 }

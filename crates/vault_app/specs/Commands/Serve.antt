@@ -36,5 +36,5 @@ serve_says j = record (quiet (OfTask j.file (IsServeOf j))) {
   unfinished = λ world about. (about ≡ Merchants) × IsUnfinishedAt world j.merchants
       ⊎ (about ≡ Rights) × IsUnfinishedAt world j.rights;
   needs_moment = IsSome j.merchants ⊎ IsSome j.rights;
-  has_list = IsSome j.merchants ⊎ IsSome j.rights;
+  has_list = λ about. (about ≡ Merchants) × IsSome j.merchants ⊎ (about ≡ Rights) × IsSome j.rights;
 }

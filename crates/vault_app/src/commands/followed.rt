@@ -1,8 +1,10 @@
 //! The lists of a service, as their files have them before it.
 ghost use Rattle.std.specs.Prelude.{◌≡◌, IfErr, IfOk, IfSome};
+ghost use Rattle.std.specs.declared.io.ErrorKind.TheVariants.{OutOfMemory};
 ghost use Rattle.vault_core.specs.Scalar.{IsMoment};
 ghost use Rattle.vault_jobs.specs.Lists.{path_of};
 ghost use Rattle.vault_jobs.specs.Moments.{IsMomentOf};
+ghost use Rattle.vault_jobs.specs.declared.stop.Stop.TheVariants.{Unread};
 ghost use Rattle.vault_app.specs.Followed.{EndsUnfollowed, HasNoMoment, IsFollowed};
 ghost use Rattle.vault_app.specs.World.{looked};
 
@@ -15,12 +17,21 @@ use vault_listen::time::Timekeeper;
 use vault_live::desk::Desk;
 use vault_live::kind::Kind;
 use vault_live::listed::Listed;
+use vault_live::subject::Subject;
 use vault_live::whole::is_whole;
+
+/// The stop for want of memory for a list.
+fn no_memory(about: Subject) -> Stop
+    ensures { result ≡ Unread about OutOfMemory }
+{
+    Stop::Unread(about, ErrorKind::OutOfMemory)
+}
 
 /// A list as its file has it, and the clock's moment.
 fn file_of<R: Drop, K: Timekeeper>(
     rt: &HostRuntime,
     time: &K,
+    about: Subject,
     path: &str,
     text: Vec<u8>,
     rows: Vec<R>,
@@ -30,10 +41,10 @@ fn file_of<R: Drop, K: Timekeeper>(
     // its moment was told
     ensures told { IfOk result (λ it. IsMomentOf (K.tells time.now) None it.now × IsMoment it.now) }
     // with Err, there is no moment, or memory was refused
-    ensures fault { IfErr result HasNoMoment }
+    ensures fault { IfErr result (HasNoMoment about) }
 {
     let Ok(path) = String::from_str(rt.alloc(), path) else {
-        return Err(Ending::Stopped(Stop::Rights(ErrorKind::OutOfMemory)));
+        return Err(Ending::Stopped(no_memory(about)));
     };
     match moment(time, None) {
         Ok(now) => Ok(ListFile {
@@ -67,7 +78,7 @@ pub(crate) fn list_at<L: Kind, K: Timekeeper, D: Desk>(
     };
     let text = match desk.read(path, 0) {
         Ok(text) => text,
-        Err(why) => return Err(Ending::Stopped(Stop::Rights(why))),
+        Err(why) => return Err(Ending::Stopped(Stop::Unread(L::subject(), why))),
     };
     if !is_whole(text.as_slice()) {
         return Err(Ending::Unfinished(L::subject()));
@@ -75,9 +86,9 @@ pub(crate) fn list_at<L: Kind, K: Timekeeper, D: Desk>(
     let rows = match L::read(rt.alloc(), text.as_slice()) {
         Listed::Good(rows) => rows,
         Listed::Faulty(number) => return Err(Ending::Refused(number)),
-        Listed::Unknown => return Err(Ending::Stopped(Stop::Rights(ErrorKind::OutOfMemory))),
+        Listed::Unknown => return Err(Ending::Stopped(no_memory(L::subject()))),
     };
-    match file_of(rt, time, path, text, rows) {
+    match file_of(rt, time, L::subject(), path, text, rows) {
         Ok(listed) => Ok(Some(listed)),
         Err(ending) => Err(ending),
     }

@@ -16,6 +16,7 @@ use vault_jobs::show::Shown;
 use vault_jobs::stop::Stop;
 use vault_jobs::task::Task;
 use vault_listen::time::Timekeeper;
+use vault_live::subject::Subject;
 use vault_merchants::fault::MerchantsFault;
 use vault_merchants::read::{ListedMerchant, read_merchants};
 use vault_words::commands::merchants::MerchantsJob;
@@ -30,12 +31,13 @@ fn read<P: Paths>(rt: &HostRuntime, paths: &P, path: &str) -> Result<Vec<ListedM
 {
     let text = match paths.read(rt, path) {
         Ok(text) => text,
-        Err(error) => return Err(Ending::Stopped(Stop::Rights(error.kind()))),
+        Err(error) => return Err(Ending::Stopped(Stop::Unread(Subject::Merchants, error.kind()))),
     };
     match read_merchants(rt.alloc(), &text) {
         Ok(rows) => Ok(rows),
         Err(MerchantsFault::Memory) => {
-            Err(Ending::Stopped(Stop::Rights(ErrorKind::OutOfMemory)))
+            let stop = Stop::Unread(Subject::Merchants, ErrorKind::OutOfMemory);
+            Err(Ending::Stopped(stop))
         }
         Err(fault) => Err(Ending::Refused(fault.refusal().number())),
     }

@@ -17,6 +17,7 @@ use vault_jobs::show::Shown;
 use vault_jobs::stop::Stop;
 use vault_jobs::task::Task;
 use vault_listen::time::Timekeeper;
+use vault_live::subject::Subject;
 use vault_rights::fault::RightsFault;
 use vault_rights::read::read_rights;
 use vault_words::commands::rights_file::RightsFileJob;
@@ -32,11 +33,14 @@ fn read<P: Paths>(rt: &HostRuntime, paths: &P, path: &str) -> Result<Vec<ListedR
 {
     let text = match paths.read(rt, path) {
         Ok(text) => text,
-        Err(error) => return Err(Ending::Stopped(Stop::Rights(error.kind()))),
+        Err(error) => return Err(Ending::Stopped(Stop::Unread(Subject::Rights, error.kind()))),
     };
     match read_rights(rt.alloc(), &text) {
         Ok(rows) => Ok(rows),
-        Err(RightsFault::Memory) => Err(Ending::Stopped(Stop::Rights(ErrorKind::OutOfMemory))),
+        Err(RightsFault::Memory) => {
+            let stop = Stop::Unread(Subject::Rights, ErrorKind::OutOfMemory);
+            Err(Ending::Stopped(stop))
+        }
         Err(fault) => Err(Ending::Refused(fault.refusal().number())),
     }
 }

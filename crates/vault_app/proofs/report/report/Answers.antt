@@ -1,6 +1,7 @@
 use Rattle.std.proofs.Common.{ℕ, List, ◌++◌, ◌∙◌, ap, append-nil, codes, refl, subst}
 use Rattle.vault_wire.specs.Watching.{inner_of, is_stopped}
 use Rattle.vault_app.specs.Ending.{refusal_line, stop_line}
+use Rattle.vault_jobs.specs.Causes.{refusal_of}
 use Rattle.vault_refusal.specs.Refusal.{number_of}
 use Rattle.vault_live.specs.Told.{Tells}
 use Rattle.vault_app.proofs.report.report.Goals as goal
@@ -47,11 +48,14 @@ returns-in-Unfinished-clause-said g c =
 pub returns-in-Stopped-clause-said : goal.returns-in-Stopped-clause-said
 returns-in-Stopped-clause-said g c =
     let old = g.E.Write.contents c.args.errors.now.inner in
-    let new = g.E.Write.contents c.tell_numbered-in-Stopped.new.writer.inner in
+    let new = g.E.Write.contents c.tell_lines.new.writer.inner in
     rw c.in-Stopped.is (
       refl,
-      subst (λ (n : ℕ). Tells old new c.tell_numbered-in-Stopped.new.writer.stopped (stop_line n))
-          (c.number-in-Stopped.ensures ∙ ap number_of c.refusal.ensures) c.tell_numbered-in-Stopped.ensures,
+      subst (λ (t : List ℕ). Tells old new c.tell_lines.new.writer.stopped t)
+          (ap (λ (n : ℕ). stop_line n ++ c.unread.result.now)
+          (c.number-in-Stopped.ensures ∙ ap number_of c.refusal.ensures)
+          ∙ ap (λ (t : List ℕ). stop_line (number_of (refusal_of c.in-Stopped.stop)) ++ t) c.unread.ensures)
+          c.tell_lines.ensures,
     )
 
 pub returns-in-BadWords-clause-said : goal.returns-in-BadWords-clause-said

@@ -9,11 +9,13 @@ use Rattle.vault_app.proofs.report.tell_not_opened.Goals as goal
 pub returns-in-None : goal.returns-in-None
 returns-in-None g c =
     let old = g.E.Write.contents c.args.errors.now.inner in
-    let new = g.E.Write.contents c.tell_numbered.new.writer.inner in
+    let new = g.E.Write.contents c.tell_lines.new.writer.inner in
     let none = sym c.detail.ensures ∙ c.in-None.is in
-    subst (λ (line : List ℕ). Tells old new c.tell_numbered.new.writer.stopped line)
-    (without_detail c.args.fault.now c.number.result (c.number.ensures ∙ ap number_of c.refusal.ensures) none)
-    c.tell_numbered.ensures
+    subst (λ (line : List ℕ). Tells old new c.tell_lines.new.writer.stopped line)
+    (ap (λ (behind : List ℕ). codes "vault: file not opened " ++ decimal c.number.result ++ codes "\n" ++ behind)
+    c.cause.ensures
+    ∙ without_detail c.args.fault.now c.number.result (c.number.ensures ∙ ap number_of c.refusal.ensures) none)
+    c.tell_lines.ensures
 
 pub returns-in-Some : goal.returns-in-Some
 returns-in-Some g c =

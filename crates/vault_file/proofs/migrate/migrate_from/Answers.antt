@@ -9,40 +9,40 @@ use Rattle.vault_file.specs.declared.fault.NotOpened.TheVariants.{Fault}
 
 pub returns-in-Ok-clause-moved : goal.returns-in-Ok-clause-moved
 returns-in-Ok-clause-moved g c image holds =
-    moves_from c.migrate_all.new.conn (c.in-Some.ensures.opened image holds) c.in-Some.ensures.unlimited
+    moves_from c.migrate_all.new.conn (c.in-Ok.ensures.opened image holds) c.in-Ok.ensures.unlimited
     c.migrate_all.ensures.migrates.clean
     c.in-Ok.ensures.migrates.moved c.in-Ok.ensures.migrates.blank c.in-Ok.ensures.migrates.sound
-    (c.in-Some.ensures.either image holds)
-    (c.in-Some.ensures.first image holds) c.in-Ok.ensures.known c.in-Ok.ensures.stood
+    (c.in-Ok.ensures.either image holds)
+    (c.in-Ok.ensures.first image holds) c.in-Ok.ensures.known c.in-Ok.ensures.stood
 
 pub returns-in-Err-clause-rightly : goal.returns-in-Err-clause-rightly
 returns-in-Err-clause-rightly g c image holds clean =
-    let opened = c.in-Some.ensures.opened image holds in
+    let opened = c.in-Ok.ensures.opened image holds in
     let last = c.migrate_all.new.conn in
     let was = c.migrate_all.ensures.migrates.clean in
     let migrates = c.in-Err.ensures.migrates in
     record {
-      tells = tells_old last opened c.in-Some.ensures.unlimited was c.in-Err.fault clean
+      tells = tells_old last opened c.in-Ok.ensures.unlimited was c.in-Err.fault clean
           (migrates.damaged clean) (migrates.wrong clean);
-      in_version = never_in last opened c.in-Some.ensures.unlimited was c.in-Err.fault migrates.spared clean;
-      in_some = never_some last opened c.in-Some.ensures.unlimited was c.in-Err.fault migrates.spared clean;
-      spared = spares opened (c.in-Some.ensures.again image holds) last c.in-Err.fault
-          (λ clean fit. migrates.spared clean (movable (file_state c.in-Some.conn).now fit))
-          (λ some. was) clean (c.in-Some.ensures.either image holds) (c.in-Some.ensures.first image holds);
+      in_version = never_in last opened c.in-Ok.ensures.unlimited was c.in-Err.fault migrates.spared clean;
+      in_some = never_some last opened c.in-Ok.ensures.unlimited was c.in-Err.fault migrates.spared clean;
+      spared = spares opened (c.in-Ok.ensures.again image holds) last c.in-Err.fault
+          (λ clean fit. migrates.spared clean (movable (file_state c.in-Ok.conn).now fit))
+          (λ some. was) clean (c.in-Ok.ensures.either image holds) (c.in-Ok.ensures.first image holds);
     }
 
 pub returns-in-Err-clause-left : goal.returns-in-Err-clause-left
 returns-in-Err-clause-left g c image holds =
-    let first = c.in-Some.conn in
-    let opened = c.in-Some.ensures.opened image holds in
+    let first = c.in-Ok.conn in
+    let opened = c.in-Ok.ensures.opened image holds in
     let last = c.migrate_all.new.conn in
     let was = c.migrate_all.ensures.migrates.clean in
     record {
-      left = leaves_from image first last opened c.in-Some.ensures.unlimited
+      left = leaves_from image first last opened c.in-Ok.ensures.unlimited
           (λ clean. (c.migrate_all.ensures.crash clean).found) was
-          (λ clean. (c.migrate_all.ensures.crash clean).older) (c.in-Some.ensures.again image holds)
-          (c.in-Some.ensures.either image holds) (c.in-Some.ensures.first image holds);
-      old = leaves_old last opened c.in-Some.ensures.unlimited was c.in-Err.fault
+          (λ clean. (c.migrate_all.ensures.crash clean).older) (c.in-Ok.ensures.again image holds)
+          (c.in-Ok.ensures.either image holds) (c.in-Ok.ensures.first image holds);
+      old = leaves_old last opened c.in-Ok.ensures.unlimited was c.in-Err.fault
           (λ clean. (c.migrate_all.ensures.crash clean).older) c.in-Err.ensures.migrates.stays;
       same = λ other. leaves_whole image first last opened c.settled.ensures was
           (λ clean. c.in-Err.ensures.migrates.unwritten clean
