@@ -5,4 +5,6 @@ set -eu
 . "$(dirname "$0")/shared/begin.sh"
 wants nginx nginx-light
 wants openssl
+need sslscan sslscan || :
+need testssl testssl.sh || :
 python3 -m front "$program" "$here/.."

@@ -5,4 +5,6 @@ set -eu
 . "$(dirname "$0")/shared/begin.sh"
 wants haproxy
 wants openssl
+need sslscan sslscan || :
+need testssl testssl.sh || :
 python3 -m haproxy "$program" "$here/.."

@@ -6,7 +6,7 @@ import ssl
 import subprocess
 import sys
 
-from front import both, certificates, guards, held
+from front import both, certificates, ciphers, guards, held, limits
 from front.clients import NUMBER, Client
 from front.load import MESSAGES, Load
 from front.services import Front, two_vaults
@@ -110,12 +110,24 @@ def examples(tally, port, program, repository, vault):
 def guarded(tally, front):
     """What the front lets through, and what it doesn't."""
     port = front.port
+    scan = ciphers.Scan(port)
     token = both.one_token(tally, port)
     strangers(tally, port)
     refused_by_the_front(tally, port)
     both.forgeries(tally, front, token)
     guards.bodies(tally, port)
     guards.numbers(tally, port, token)
+    scan.judge(tally)
+
+
+def limited(tally, program, configuration):
+    """What a caller is stopped at; a clerk has four card numbers of a day here."""
+    vault = limits.shop(program)
+    fewer = ("zone=day burst=1000", "zone=day burst=3")
+    with contextlib.closing(Front(configuration, vault, vault, (fewer,))) as front:
+        token = limits.judge(tally, front.port, vault, limits.Kind(100, "60"))
+        limits.by_day(tally, front.port, limits.SHOP, token, "60")
+    vault.kill()
 
 
 def main(program, repository):
@@ -126,13 +138,15 @@ def main(program, repository):
         with contextlib.closing(Front(f"{repository}/deploy/nginx.conf", first, second)) as front:
             guarded(tally, front)
             guards.health(tally, front, first)
-            held.judge(tally, front.port, second)
+            guards.flooded(tally, front)
+            held.judge(tally, front.port, second, (front.health,))
             away(tally, front.port, first)
             under_load(tally, front.port, first)
             examples(tally, front.port, program, repository, first)
             guards.page(tally, front.port)
             guards.logged(tally, "vault-error.log")
             by_merchant(tally, front.port, program, vaults)
+    limited(tally, program, f"{repository}/deploy/nginx.conf")
     tally.end()
 
 

@@ -164,6 +164,25 @@ def health(tally, front, vault):
     tally.judge("and listens again", "" if until(lambda: told()[0] == 200) else f"{told()}")
 
 
+def flooded(tally, front):
+    """A flood of questions whether the vault listens reaches it 20 times a second and 21 at once."""
+    statuses, begun = [], time.monotonic()
+
+    def one():
+        for _ in range(10):
+            peer = http.client.HTTPConnection("127.0.0.1", front.health, timeout=10)
+            peer.request("GET", "/health")
+            statuses.append(peer.getresponse().status)
+            peer.close()
+
+    with at_once(one, [()] * AT_ONCE):
+        pass
+    most = 21 + 20 * (time.monotonic() - begun) + 1
+    given = statuses.count(200)
+    tally.judge("some of a flood are told that it listens", "" if 21 <= given <= most else f"{given}, {most}")
+    tally.judge("and the others to come again", unlike(statuses.count(429), len(statuses) - given))
+
+
 def numbers(tally, port, token):
     """One caller's requests for numbers go five a second, and those beyond the ones that wait are refused."""
     # requests for numbers that went before are forgotten five a second

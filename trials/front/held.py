@@ -1,5 +1,6 @@
 """Connections that somebody holds, thousands of a kind, while one vault hangs: a caller of another vault is
-answered all the same."""
+answered all the same. So too with thousands that say nothing, at each port of the front, from an address of
+their own and from a shop's."""
 
 import concurrent.futures
 import os
@@ -16,8 +17,11 @@ from shared.runs import until
 
 MANY = 5000
 AT_ONCE = 8
-# whoever holds them has an address of its own
+# whoever holds them has an address of its own, or sits in a shop that the front knows, or in one that it doesn't
 HOLDER = "127.0.0.2"
+SHOP = "127.0.0.3"
+CROWDED = "127.0.0.4"
+TILLS = 300  # that are behind one address, each with a certificate
 WITHIN = 1.0  # seconds in which another caller has its answer
 PROBES = 10
 
@@ -43,16 +47,16 @@ def context_of(caller):
 
 class Held:
     """As many connections of a kind as the front takes, over which nothing is read; those that drip have a byte
-    more each second. They are closed at the end of a `with`."""
+    more each second, and those of which nothing is sent don't begin TLS. They are closed at the end of a `with`."""
 
-    def __init__(self, port, caller, sent, drips):
-        self.port, self.sent, self.drips = port, sent, drips
+    def __init__(self, port, caller, sent, drips=False, address=HOLDER, many=MANY):
+        self.port, self.sent, self.drips, self.address, self.many = port, sent, drips, address, many
         self.context, self.peers = context_of(caller), []
         self.over, self.full = threading.Event(), threading.Event()
 
     def __enter__(self):
         with concurrent.futures.ThreadPoolExecutor(AT_ONCE) as pool:
-            self.peers = [it for it in pool.map(lambda _: self.begun(), range(MANY)) if it]
+            self.peers = [it for it in pool.map(lambda _: self.begun(), range(self.many)) if it]
         self.dripping = threading.Thread(target=self.drip)
         self.dripping.start()
         return self
@@ -69,9 +73,11 @@ class Held:
         peer = None
         try:
             if not self.full.is_set():
-                peer = socket.create_connection(("127.0.0.1", self.port), 5, source_address=(HOLDER, 0))
-                peer = self.context.wrap_socket(peer, server_hostname="localhost")
-                peer.sendall(self.sent)
+                place = ("127.0.0.1", self.port)
+                peer = socket.create_connection(place, 5, source_address=(self.address, 0))
+                if self.sent is not None:
+                    peer = self.context.wrap_socket(peer, server_hostname="localhost")
+                    peer.sendall(self.sent)
             return peer
         except TimeoutError:
             self.full.set()
@@ -91,44 +97,51 @@ class Held:
                     pass
 
 
-def answered(port):
+def answered(port, address=None):
     """In how many seconds another caller has its answer over a connection of its own, or None."""
     begun = time.monotonic()
     try:
-        status = Client(port, "back", 5).ask("GET", "/v1/merchants/shop1/audit").status
+        status = Client(port, "back", 5, address).ask("GET", "/v1/merchants/shop1/audit").status
     except OSError:
         return None
     return time.monotonic() - begun if status == 200 else None
 
 
-def judge(tally, port, hanging):
+def judge(tally, port, hanging, sides):
     """Each kind in turn, while the vault of its merchant hangs: ten answers one after the other come to another
-    caller of another vault, each within a second."""
+    caller of another vault, each within a second. The front's other ports are its sides."""
     resource.setrlimit(resource.RLIMIT_NOFILE, (resource.getrlimit(resource.RLIMIT_NOFILE)[1],) * 2)
     os.kill(hanging.process.pid, signal.SIGSTOP)
     try:
         for name, caller, sent in KINDS:
-            judge_kind(tally, port, name, caller, sent)
+            judge_kind(tally, port, name, Held(port, caller, sent, name == "that drip"))
     finally:
         os.kill(hanging.process.pid, signal.SIGCONT)
+    judge_kind(tally, port, "that say nothing", Held(port, None, None))
+    for place, side in enumerate(sides):
+        judge_kind(tally, port, f"to its side {place + 1} that say nothing", Held(side, None, None))
+    within = Held(port, None, None, address=SHOP)
+    judge_kind(tally, port, "in a shop that say nothing", within, SHOP)
+    tills = Held(port, "guest", b"", address=CROWDED, many=TILLS)
+    judge_kind(tally, port, "of tills behind an address", tills, CROWDED)
 
 
-def judge_kind(tally, port, name, caller, sent):
-    """One kind."""
+def judge_kind(tally, port, name, held, address=None):
+    """One kind, and another caller at an address of its own or at theirs."""
     told = []
 
     def all_in_time():
         del told[:]
         while len(told) < PROBES and (not told or (told[-1] or 9) <= WITHIN):
-            told.append(answered(port))
+            told.append(answered(port, address))
         return told[-1] is not None and told[-1] <= WITHIN
 
-    with Held(port, caller, sent, name == "that drip") as held:
+    with held:
         fits = until(all_in_time, 20)
         shown = ", ".join("none" if it is None else f"{it:.1f} s" for it in told)
-        tally.judge(f"{MANY} connections {name} leave room for another caller", "" if fits else shown)
+        tally.judge(f"{held.many} connections {name} leave room for another caller", "" if fits else shown)
         slowest = max(it or 99 for it in told)
         print(
-            f"of {MANY} connections {name} {len(held.peers)} are taken; another waits {slowest:.2f} s",
+            f"of {held.many} connections {name} {len(held.peers)} are taken; another waits {slowest:.2f} s",
             flush=True,
         )

@@ -12,6 +12,12 @@ from shared.service import must_serve
 
 # What a back office may do elsewhere, and not at these vaults.
 REST = {"back": ("view", "revoke", "purge")}
+# What callers are that aren't tills: those that send thousands of messages in a trial are batches.
+CLASSES = {
+    "office": ("back",),
+    "batch": ("batch-1", *(f"till-{place}" for place in range(1, 9))),
+    "settlement": ("settle",),
+}
 RELOAD = f"{os.path.dirname(os.path.abspath(__file__))}/../../deploy/reload"
 
 
@@ -88,10 +94,15 @@ class Reloaded:
         self.end()
 
 
+def classes():
+    """The lines of the file that say what callers are."""
+    return "\n".join(f"{caller} {name};" for name, callers in CLASSES.items() for caller in callers)
+
+
 class Front(Reloaded):
     """nginx by the file that an installation starts from, with this machine's ports and folders."""
 
-    def __init__(self, configuration, first, second):
+    def __init__(self, configuration, first, second, pairs=()):
         self.port, self.health = free_port(), free_port()
         self.folder = folder = os.getcwd()
         os.makedirs("front-files", exist_ok=True)
@@ -110,6 +121,8 @@ class Front(Reloaded):
             ("127.0.0.1:8404", f"127.0.0.1:{self.health}"),
             ("127.0.0.1:8087", f"127.0.0.1:{first.port}"),
             ("# ~^/v1/merchants/shop2/ 127.0.0.1:8088", f"~^/v1/merchants/shop2/ 127.0.0.1:{second.port}"),
+            ("# settle settlement;", classes()),
+            *pairs,
         ):
             if text.count(old) < 1:
                 raise SystemExit(f"nginx.conf hasn't {old}\n0 passed, 1 failed")

@@ -6,7 +6,7 @@ import sys
 import threading
 import time
 
-from front import both, certificates, forged, guards, held
+from front import both, certificates, ciphers, forged, guards, held, limits
 from front.clients import NUMBER, Client
 from front.raw import answer, message
 from front.services import two_vaults
@@ -111,15 +111,6 @@ def floods(tally, port):
     tally.judge("another caller isn't refused", unlike(Client(port, "back").ask("GET", AUDIT).status, 200))
 
 
-def by_day(tally, port, token):
-    """A caller that brought back as many numbers as it may in a day, here four, is told to come much later."""
-    back = Client(port, "back")
-    told = [back.ask("POST", f"{TOKENS}/{token}/number") for _ in range(6)]
-    tally.judge("a day's numbers have an end", unlike([it.status for it in told], [200] * 4 + [429] * 2))
-    tally.judge("and it is told when", unlike(told[-1].fields.get("Retry-After"), "3600"))
-    tally.judge("other requests of it go on", unlike(back.ask("GET", AUDIT).status, 200))
-
-
 def figures(tally, front):
     """What the exporter says, and to whom."""
     told = front.numbers()
@@ -133,6 +124,7 @@ def figures(tally, front):
 def guarded(tally, front):
     """What the front lets through, and what it doesn't."""
     port, late = front.port, []
+    scan = ciphers.Scan(port)
     waiting = threading.Thread(target=slow, args=(port, late))
     waiting.start()
     token = one_token(tally, port)
@@ -144,12 +136,21 @@ def guarded(tally, front):
     guards.page(tally, port)
     waiting.join()
     tally.judge("half a request is told in time", unlike(json.loads(late[0].body), {"front": 408}))
+    scan.judge(tally)
     return token
 
 
 def at_a_front(repository, vaults, *changes):
     """A front before the vaults, with some changes of its file; it is over at the end of a `with`."""
     return contextlib.closing(Front(repository, *vaults, pairs=changes))
+
+
+def limited(tally, program, repository):
+    """What a caller is stopped at."""
+    vault = limits.shop(program)
+    with contextlib.closing(Front(repository, vault)) as front:
+        limits.judge(tally, front.port, vault, limits.Kind(20, "3600"))
+    vault.kill()
 
 
 def main(program, repository):
@@ -161,7 +162,7 @@ def main(program, repository):
             token = guarded(tally, front)
             guards.health(tally, front, first)
             trailers(tally, front.port, first)
-            held.judge(tally, front.port, second)
+            held.judge(tally, front.port, second, (front.health, front.figures))
             waits.stopped(tally, front.port, first)
             waits.gone(tally, front.port, first, front)
             waits.crowded(tally, front.port, first)
@@ -174,7 +175,7 @@ def main(program, repository):
             ("timeout client 15s", "timeout client 1s"),
         )
         with at_a_front(repository, vaults, *less) as front:
-            by_day(tally, front.port, token)
+            limits.by_day(tally, front.port, "shop1", token, "3600")
             floods(tally, front.port)
             waits.told_at_last(tally, front.port, first)
         # more requests than a caller may have otherwise
@@ -184,6 +185,7 @@ def main(program, repository):
             figures(tally, front)
             waits.relisted(tally, front.port, first)
         kept.judge(tally, first)
+        limited(tally, program, repository)
         guards.logged(tally, "haproxy.err")
     tally.end()
 

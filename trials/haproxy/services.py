@@ -7,27 +7,37 @@ import signal
 import subprocess
 import urllib.request
 
-from front.services import Reloaded
+from front.services import CLASSES, Reloaded
 from shared.ports import free_port, has_ipv6, takes_connections
 from shared.runs import until
 
 # the log is a file here, and a socket of syslog where it is installed
 TO_FILE = (("log /dev/log local0", "log stdout format raw local0"),)
+# an address of a shop's
+SHOP = "127.0.0.3"
 FILES = ("server.pem", "server.key", "callers.pem", "revoked.pem")
 
 
 def changed(text, *pairs):
     """A text with one thing in place of another, each of which has to be there."""
     for old, new in pairs:
-        if old not in text:
+        found = re.search(old, text) if isinstance(old, re.Pattern) else old in text
+        if not found:
             raise SystemExit(f"the file hasn't {old}\n0 passed, 1 failed")
-        text = text.replace(old, new)
+        text = re.sub(old, new, text) if isinstance(old, re.Pattern) else text.replace(old, new)
     return text
 
 
 def route(merchant, backend):
     """The line of the file by which a merchant has a vault."""
     return f"use_backend {backend} if {{ path -m beg /v1/merchants/{merchant}/ }}"
+
+
+def classes():
+    """The pairs by which the file says what callers are: its own example has one caller of each class."""
+    for name, callers in CLASSES.items():
+        example = re.compile(rf"(?m)^    # (http-request .*str\({name}\) if {{ var\(txn.caller\) -m str) .* }}$")
+        yield example, rf"    \1 {' '.join(callers)} }}"
 
 
 def routes(vaults):
@@ -68,6 +78,8 @@ class Front(Reloaded):
             ("127.0.0.1:8087", f"127.0.0.1:{vault.port}"),
             (f"    # {route('shop2', 'north')}", routes(others)),
             ("backend north\n    server north 127.0.0.1:8088 maxconn 64\n", backends(others)),
+            ("acl shops src 192.0.2.0/24", f"acl shops src {SHOP}"),
+            *classes(),
             *pairs,
         )
         if os.getuid():

@@ -1,0 +1,67 @@
+"""What two scanners of TLS find at a front: sslscan its versions and ciphers, testssl its defaults and what it may
+be attacked by. Each is left out, with a line that says so, if it isn't there."""
+
+import json
+import re
+import shutil
+import subprocess
+
+from shared.tally import unlike
+
+STRONG = re.compile(
+    r"TLSv1\.3 +[0-9]+ bits +TLS_(AES_256_GCM_SHA384|CHACHA20_POLY1305_SHA256|AES_128_GCM_SHA256)\b"
+    r"|TLSv1\.2 +[0-9]+ bits +ECDHE-(ECDSA|RSA)-(AES(128|256)-GCM-SHA(256|384)|CHACHA20-POLY1305)\b"
+)
+# the trial's authority is a file: it says nowhere on the net whose certificates it took back, and no record of a
+# domain names it
+NOT_OF_A_FRONT = {"cert_revocation", "DNS_CAArecord"}
+
+
+def is_there(program):
+    """Whether a scanner is there."""
+    found = shutil.which(program) is not None
+    if not found:
+        print(f"{program} isn't there and can't be installed: what it finds is left out", flush=True)
+    return found
+
+
+class Scan:
+    """testssl beside other cases, since it takes a minute or two; `judge` waits for it."""
+
+    def __init__(self, port):
+        self.port, self.process = port, None
+        words = ("--quiet", "--color", "0", "--warnings", "off", "--ip", "127.0.0.1", "-n", "none", "--fast")
+        words += ("--add-ca", "callers.pem", "--openssl-timeout", "5", "--severity", "LOW")
+        if is_there("testssl"):
+            self.process = subprocess.Popen(
+                ["nice", "testssl", *words, "--jsonfile", "found.json", "-S", "-U", f"localhost:{port}"],
+                stdout=subprocess.DEVNULL,
+                stdin=subprocess.DEVNULL,
+            )
+
+    def judge(self, tally):
+        """Nothing is found above `info`; and what sslscan says."""
+        self.scanned(tally)
+        if self.process is None:
+            return
+        # a status above 200 is a fault of testssl's own
+        ended = self.process.wait(600)
+        tally.judge("testssl comes to its end", "" if ended < 200 else f"status {ended}")
+        if ended >= 200:
+            return
+        found = [it for it in json.load(open("found.json")) if it["id"] not in NOT_OF_A_FRONT]
+        told = [f"{it['id']} {it['severity']}: {it['finding']}" for it in found]
+        tally.judge("testssl finds nothing", unlike(told, []))
+
+    def scanned(self, tally):
+        """TLS 1.2 and 1.3 alone, and ciphers that keep secret what was said once a key is known."""
+        if not is_there("sslscan"):
+            return
+        words = ["sslscan", "--no-colour", f"localhost:{self.port}"]
+        lines = subprocess.run(words, capture_output=True, text=True, timeout=120).stdout.splitlines()
+        enabled = [it.split()[0] for it in lines if re.match(r"(SSL|TLS)v[0-9.]+ +enabled", it)]
+        tally.judge("TLS 1.2 and 1.3 alone", unlike(enabled, ["TLSv1.2", "TLSv1.3"]))
+        ciphers = [it.partition(" ")[2].strip() for it in lines if re.match("(Preferred|Accepted) ", it)]
+        tally.judge("sslscan sees ciphers", "" if len(ciphers) >= 6 else f"{ciphers}")
+        weak = [it for it in ciphers if not STRONG.match(it)]
+        tally.judge("each is a strong one", unlike(weak, []))
