@@ -114,11 +114,12 @@ class Shop:
             self.given += 1
 
     def lacking(self):
-        """How many numbers no line of the log tells of."""
+        """How many numbers no whole line of the log tells of. A part of one may stand before a whole one."""
         found = []
         for name in os.listdir("full"):
             found += lines.read(f"full/{name}") if name.startswith("front.log") else []
-        logged = sum('"asked":"detokenize","status":200' in it for it in found)
+        whole = r'.*\{"time":[^{]*"asked":"detokenize","status":200,[^{]*"reference":"[^"]*"\}'
+        logged = sum(re.fullmatch(whole, it) is not None for it in found)
         return self.given - self.before - self.hung_up - logged
 
     def judge(self, what, lost):
