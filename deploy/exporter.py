@@ -18,11 +18,14 @@ It asks the front for the counts of each merchant that CONFIGURATION lists, as a
     volumes = ["/var/lib/vault"]                   # which of them have to be mounted
     revoked = "/etc/vault/revoked.pem"             # whose ends are told, and those of `authority`
     indexes = "/etc/vault/callers-*.index"         # what the authorities signed, by certificates.sh publish
+    log = "/var/log/vault/front.log"               # the front's; numbers that no line of it tells of are told
+    settle = 10              # seconds until a number's line stands there at the latest
 
 Merchants are asked one after the other all the time, eight at most at once, and a scrape is answered what was
 told last. So it takes no time however many there are, and vaults that hang hold up nobody. One that isn't
 answered within five seconds has `vault_up` 0 and no counts, and why stands on standard error. Certificates
-are read anew for each question. It needs Debian's `python3-prometheus-client` and openssl beyond Python 3.11.
+are read anew for each question. What it knows of the log it keeps in `ledger.json` of the unit's own folder,
+which `who.py --reconcile` reads. It needs Debian's `python3-prometheus-client` and openssl beyond Python 3.11.
 """
 
 import calendar
@@ -44,6 +47,7 @@ import tomllib
 import urllib.parse
 from wsgiref.simple_server import WSGIRequestHandler, WSGIServer, make_server
 
+import front_log
 from prometheus_client import make_wsgi_app
 from prometheus_client.core import CollectorRegistry, GaugeMetricFamily
 
@@ -125,9 +129,9 @@ class Front:
 class Merchants(threading.Thread):
     """What each merchant was answered last; it asks all the time, evenly."""
 
-    def __init__(self, front, settings):
+    def __init__(self, front, settings, unlogged):
         super().__init__(daemon=True)
-        self.front, self.names = front, settings["merchants"]
+        self.front, self.names, self.unlogged = front, settings["merchants"], unlogged
         self.pause = max(LEAST, settings.get("every", 30) / max(1, len(self.names)))
         self.told, self.why, self.all_told = {}, {}, threading.Event()
 
@@ -142,7 +146,9 @@ class Merchants(threading.Thread):
 
     def ask(self, name):
         """Asks once. Why there is no answer is written where it is another reason than before."""
+        looked = self.unlogged.look(name)
         counts, why, spent = self.front.counts(name)
+        self.unlogged.told(name, counts, looked)
         if why and self.why.get(name) != why:
             print(f"{name}: {why}", file=sys.stderr, flush=True)
         self.why[name] = why
@@ -164,6 +170,37 @@ class Merchants(threading.Thread):
                 for name, family in known.items():
                     family.add_metric([merchant], told[name])
         return [up, took, full, *known.values()]
+
+
+class Unlogged:
+    """Card numbers that went out by no line of the front's log, if the settings name that."""
+
+    def __init__(self, settings):
+        folder = os.environ.get("STATE_DIRECTORY")
+        file = folder and f"{folder}/ledger.json"
+        words = settings.get("log"), settings["merchants"], file, settings.get("settle", 10)
+        self.ledger = front_log.Ledger(*words) if words[0] else None
+
+    def look(self, merchant):
+        """What the log has, before the vault is asked."""
+        return self.ledger and self.ledger.look(merchant)
+
+    def told(self, merchant, counts, looked):
+        """What the vault then said, if it did."""
+        if counts and looked:
+            self.ledger.told(merchant, counts["given"], looked)
+
+    def collect(self):
+        """How many numbers no line tells of, and whether the log can be read."""
+        unlogged = gauge("vault_numbers_unlogged", "Card numbers that no line of the log tells of.", "merchant")
+        seen = gauge("vault_log_known", "Whether the front's log can be read.")
+        if not self.ledger:
+            return []
+        for merchant, account in sorted(self.ledger.accounts.items()):
+            if account.base is not None:
+                unlogged.add_metric([merchant], account.unlogged)
+        seen.add_metric([], 0 if self.ledger.fault else 1)
+        return [unlogged, seen]
 
 
 def told_by_openssl(kind, words, text):
@@ -295,8 +332,9 @@ def main(path):
         front.connection()
     except OSError as error:
         raise SystemExit(f"the certificates can't be used: {error}") from None
-    merchants = Merchants(front, settings)
-    for one in (merchants, Ends(front, settings), Machine(settings)):
+    unlogged = Unlogged(settings)
+    merchants = Merchants(front, settings, unlogged)
+    for one in (merchants, unlogged, Ends(front, settings), Machine(settings)):
         registry.register(one)
     port, answering = settings.get("listen", 9187), make_wsgi_app(registry)
     with make_server("127.0.0.1", port, answering, server_class=Server, handler_class=Silent) as server:

@@ -29,6 +29,7 @@ for step in pause jumped room port listens answers watch thaw alarm counted mome
     backup.sh restore.sh again.sh exporter.py; do
     place 755 "$here/$step" "/usr/lib/vault/$step"
 done
+place 644 "$here/front_log.py" /usr/lib/vault/front_log.py
 place 755 "$here/vault-look" /usr/bin/vault-look
 place 755 "$here/reload" /usr/lib/vault/reload
 place 644 "$here/vault.1" /usr/share/man/man1/vault.1

@@ -26,6 +26,8 @@ CALM = {
     'vault_ends_known{kind="caller"}': 1,
     'vault_ends_seconds{kind="caller",name="till-1"}': 100,
     'vault_ends_seconds{kind="front",name="front"}': 100,
+    'vault_numbers_unlogged{merchant="shop1"}': 2,
+    "vault_log_known": 1,
     'haproxy_backend_current_queue{proxy="vault"}': 3,
     'haproxy_frontend_requests_denied_total{proxy="callers"}': 5,
 }
@@ -48,11 +50,15 @@ BAD = {
     'vault_ends_seconds{kind="caller",name="till-1"}': 20,
     'vault_ends_seconds{kind="front",name="front"}': 3,
     'vault_unwatched{merchant="shop3"}': 1,
+    'vault_numbers_unlogged{merchant="shop1"}': 9,
+    "vault_log_known": 0,
     'haproxy_backend_current_queue{proxy="vault"}': 500,
     'haproxy_frontend_requests_denied_total{proxy="callers"}': 5000,
 }
 # what speaks for as long as its window is, which is short here
-LASTING = r"(vault_clock_jumped_seconds|haproxy_frontend_requests_denied_total\{[^}]*\})\[\w+\]"
+LASTING = (
+    r"(vault_clock_jumped_seconds|vault_numbers_unlogged|haproxy_frontend_requests_denied_total\{[^}]*\})\[\w+\]"
+)
 CONFIGURATION = """global: {{scrape_interval: 1s, evaluation_interval: 1s}}
 rule_files: [hasty.yaml]
 scrape_configs:

@@ -12,7 +12,7 @@ from shared.ports import free_port, has_ipv6, takes_connections
 from shared.runs import until
 
 # the log is a file here, and a socket of syslog where it is installed
-TO_FILE = (("log /dev/log local0", "log stdout format raw local0"),)
+TO_FILE = tuple((f"log {it} local0", "log stdout format raw local0") for it in ("/dev/log", "/vault/log"))
 # an address of a shop's
 SHOP = "127.0.0.3"
 FILES = ("server.pem", "server.key", "callers.pem", "revoked.pem")

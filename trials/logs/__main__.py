@@ -15,7 +15,7 @@ from front.clients import NUMBER, Client
 from front.services import Front as Nginx
 from front.services import REST, two_vaults
 from haproxy.services import Front
-from logs import refusals, taken
+from logs import forged_lines, odd_lines, refusals, taken, unlogged
 from logs.turned import Syslog, configured, turn
 from shared import lines
 from shared.runs import until
@@ -50,6 +50,7 @@ def by_haproxy(tally, repository, vaults):
             told = turn("20261102")
             tally.judge("logrotate turns it", told)
             taken.judge(tally, "HAProxy", front.port, 101)
+            forged_lines.by_logger(tally)
             asked(front.port, token)
             guards.typed_wrong(tally, front.port)
             forged.of_numbers(tally, front.port)
@@ -178,8 +179,10 @@ def without_numbers(tally):
         tally.judge(f"no number in {path}", f"{len(found)} of them" if found else "")
 
 
-def main(program, repository):
+def main(program, repository, python):
     tally = Tally()
+    odd_lines.judge(tally, repository)
+    forged_lines.carried_out(tally, repository)
     certificates.make()
     configured(repository)
     with two_vaults(program) as vaults:
@@ -195,6 +198,12 @@ def main(program, repository):
         emptied()
         nginx = Nginx(f"{repository}/deploy/nginx.conf", *vaults)
         refused(tally, "nginx", nginx, repository, token)
+        emptied()
+        fronts = {
+            "HAProxy": lambda: Front(repository, *vaults, log="haproxy.out"),
+            "nginx": lambda: Nginx(f"{repository}/deploy/nginx.conf", *vaults),
+        }
+        unlogged.judge(tally, python, repository, vaults[0], fronts, token)
     tally.end()
 
 

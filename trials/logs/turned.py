@@ -19,8 +19,12 @@ class Syslog:
     def __init__(self, repository):
         folder = os.getcwd()
         os.makedirs("nowhere/dev", exist_ok=True)
+        # as OPERATING.md has it made
+        os.makedirs("nowhere/vault", exist_ok=True)
+        os.chmod("nowhere/vault", 0o750)
+        shutil.chown("nowhere/vault", group="haproxy")
         text = open(f"{repository}/deploy/logs/rsyslog.conf").read()
-        text = changed(text, ("/var/log/vault/", f"{folder}/"))
+        text = changed(text, ("/var/log/vault/", f"{folder}/"), ("/var/lib/haproxy/", f"{folder}/nowhere/"))
         with open("rsyslog.conf", "w") as file:
             file.write(
                 SYSLOG.format(folder=folder)
@@ -30,7 +34,7 @@ class Syslog:
         words = ["rsyslogd", "-n", "-f", f"{folder}/rsyslog.conf", "-i", f"{folder}/rsyslog.pid"]
         self.process = subprocess.Popen(words, stderr=open("rsyslog.err", "w"))
         for _ in range(100):
-            if os.path.exists("nowhere/dev/log") and os.path.exists("rsyslog.pid"):
+            if all(map(os.path.exists, ("nowhere/dev/log", "nowhere/vault/log", "rsyslog.pid"))):
                 return
             time.sleep(0.05)
         raise SystemExit(f"rsyslogd didn't start: {open('rsyslog.err').read()}\n0 passed, 1 failed")
@@ -39,6 +43,9 @@ class Syslog:
         return self
 
     def __exit__(self, *_):
+        self.end()
+
+    def end(self):
         self.process.terminate()
         self.process.wait()
 

@@ -226,7 +226,7 @@ def waited_for(tally, machine):
     says(tally, machine, "and nowhere whole by HAProxy", nowhere, "")
     turned = "rm /var/log/vault/front.log-*; logrotate -f /etc/logrotate.d/vault-front"
     mode = f"{turned}; stat -c '%a %U' /var/log/vault/front.log"
-    says(tally, machine, "the log is for a few still", mode, r"\A640 www-data\n\Z")
+    says(tally, machine, "the log is for a few still, and root's alone", mode, r"\A640 root\n\Z")
     again = f"{audit}sleep 1; cat /var/log/vault/front.log"
     says(tally, machine, "and goes on once it was turned", again, '"caller":"back"')
     url = "http://127.0.0.1:8087/v1/merchants/shop1/audit"

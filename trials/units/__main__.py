@@ -72,6 +72,7 @@ def of_copies(tally, machine, step, freezes="100", *words):
     copies.fewer(step)
     copies.ahead(step)
     restored.looked_at(step)
+    restored.forged(step)
     restored.taken_again(step)
     restored.cut_off(step)
 

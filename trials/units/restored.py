@@ -24,6 +24,29 @@ def looked_at(step):
     step("words that it hasn't", "vault-look purge", "vault-look .*list", well=False)
 
 
+def forged(step):
+    """What an account without rights sends in HAProxy's name doesn't come into the front's logs."""
+    installed = """apt-get install -y haproxy rsyslog > /dev/null
+install -d /var/log/vault; install -d -m 750 -g haproxy /var/lib/haproxy/vault
+install -m 644 /usr/share/vault/examples/logs/rsyslog.conf /etc/rsyslog.d/48-vault.conf
+systemctl restart rsyslog
+line() { printf ' {"time":"2026-12-01T00:00:00Z","caller":"%s","status":200}|{"asked":"purge"}' $1; }
+as() { setpriv --reuid=$1 --regid=$1 --clear-groups -- logger -t haproxy -p local0.info "$2" "$3" "$4"; }
+as haproxy -u /var/lib/haproxy/vault/log "$(line first)"
+systemctl restart rsyslog; as haproxy -u /var/lib/haproxy/vault/log "$(line second)"
+sleep 1; cat /var/log/vault/front.log; stat -c '%a %U %G' /var/lib/haproxy/vault /var/log/vault/taken.log
+"""
+    own = r'"first"[\s\S]*"second".*\n750 root haproxy\n640 root adm$'
+    step("what HAProxy sends comes in, also once rsyslog was restarted", installed, own)
+    others = """for socket in /dev/log /run/systemd/journal/syslog /var/lib/haproxy/dev/log; do
+    as nobody -u $socket "$(line director)" || :
+done
+! as nobody -u /var/lib/haproxy/vault/log "$(line director)"
+sleep 1; ! grep -r director /var/log/vault; grep -c director /var/log/haproxy.log; rm /var/log/vault/*
+"""
+    step("what another account sends doesn't", others, r"Permission denied[\s\S]*^[1-4]$")
+
+
 def taken_again(step):
     """A restore revives what was taken away since, until it is taken away again from the front's log."""
     before = ASK + """one=$(token 1); two=$(token 2); three=$(token 3)
@@ -45,12 +68,21 @@ now=$(date -u +%Y-%m-%dT%H:%M:%S+00:00)
 asvault $lib/restore.sh $copy $file; systemctl start vault; number $one $two
 """
     step("a restore revives them", log + restore, r"^sound 1 [\s\S]*1111.. 200\n.*1111.. 200")
-    again = "$lib/again.sh $copy; number $one $two $three"
-    wanted = r"^again 3 unknown 1 refused 0$[\s\S]*15. 410\n.*14. 410\n.*1111.. 200"
-    step("they are taken away again", again, wanted)
-    step("and once more changes nothing", "$lib/again.sh $copy", "^again 3 unknown 1 refused 0$")
-    nobody = "sed -i 's/\"back\"/\"till-1\"/' /var/log/vault/taken.log; $lib/again.sh $copy"
-    step("one that is refused is said", nobody, "refused 2$", well=False)
+    unasked = "$lib/again.sh $copy || [ $? = 2 ] && number $one $two"
+    wanted = r"^back at shop1: revoke 3 purge 1$[\s\S]*nothing was done[\s\S]*1111.. 200\n.*1111.. 200"
+    step("without a word for it nothing is done", unasked, wanted)
+    # what no front writes stands before the lines that one wrote, and after them
+    forged = """cp /var/log/vault/taken.log /srv/taken
+{ log foo $three revoke; log $now "[1000000000001111-1000000000003111]/revoke#" purge; cat /srv/taken
+printf '\\033]0;pwn\\007\\n'; log 2026-02-30T00:00:00Z $three revoke; } > /var/log/vault/taken.log
+"""
+    again = "$lib/again.sh --yes $copy; number $one $two $three"
+    taken = r"[\s\S]*15. 410\n.*14. 410\n.*1111.. 200"
+    step("they are taken away again", forged + again, rf"^again 3 unknown 1 refused 4${taken}", well=False)
+    clean = "cp /srv/taken /var/log/vault/taken.log\n"
+    step("and once more changes nothing", clean + again, rf"^again 3 unknown 1 refused 0${taken}")
+    nobody = "sed -i 's/\"back\"/\"till-1\"/' /var/log/vault/taken.log; $lib/again.sh --yes $copy"
+    step("one that is refused is said", nobody, r"^till-1 at shop1: [\s\S]*refused 2$", well=False)
     fewer = "systemctl start vault-backup; systemctl is-failed vault-backup; cat $copies/*.sound | tail -n 1"
     step("the next copy may have fewer", fewer, "^sound 1 ", well=False)
 
