@@ -20,13 +20,15 @@
 # | server.key, server.pem | the front's | the front |
 # | NAME.key, NAME.pem | a caller's | that caller alone; NAME.key is then destroyed here |
 #
-# A caller's certificate has the subject CN=NAME and nothing else; NAME is 1 to 16 of a to z, 0 to 9 and -.
+# A caller's certificate has the subject CN=NAME and nothing else; NAME is 1 to 16 of a to z, 0 to 9 and -, and
+# doesn't begin with -.
 # A name may have several certificates at once, so one is renewed before it ends. DAYS says how long a
 # certificate lasts (397 if left out). The authority lasts ten years, and so does the list.
 # PLACE/callers.pem may have several authorities, while one follows the other: `publish` puts the list of
 # FOLDER's in place of its former one, leaves those of the others, and takes away what is of none of them.
 set -eu
 umask 077
+export LC_ALL=C
 usage() {
     sed -n '2,8s/^# //p' "$0" >&2
     exit 2
@@ -129,10 +131,14 @@ hashes() {
     done
 }
 
+# A name as a whole, its line ends too, which would be a part of a subject.
 named() {
-    printf '%s\n' "$1" | grep -Eqx '[a-z0-9-]{1,16}' ||
-        fail "$1 is no caller's name: 1 to 16 of a to z, 0 to 9 and -"
-    case $1 in server | authority | callers | revoked) fail "$1 is a name of a file here" ;; esac
+    case $1 in
+    '' | -* | *[!a-z0-9-]* | ?????????????????*)
+        fail "$1 is no caller's name: 1 to 16 of a to z, 0 to 9 and -, and no - at its beginning"
+        ;;
+    server | authority | callers | revoked) fail "$1 is a name of a file here" ;;
+    esac
 }
 
 if [ "$step" = authority ]; then
@@ -173,6 +179,7 @@ server)
     NAMES=
     for host in "$@"; do
         case $host in
+        '' | -* | *[!A-Za-z0-9._*-]*) fail "$host is no name of a machine" ;;
         *[!0-9.]*) kind=DNS ;;
         *) kind=IP ;;
         esac

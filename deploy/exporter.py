@@ -16,6 +16,8 @@ It asks the front for the counts of each merchant that CONFIGURATION lists, as a
     rights = ["/etc/vault/rights.toml"]            # merchants in it that aren't watched are told
     folders = ["/var/lib/vault"]                   # how full their disks are
     volumes = ["/var/lib/vault"]                   # which of them have to be mounted
+    ports = [8087, 8088]     # of the vaults; [8087] if left out
+    account = "vault"        # whose programs alone listen there
     revoked = "/etc/vault/revoked.pem"             # whose ends are told, and those of `authority`
     indexes = "/etc/vault/callers-*.index"         # what the authorities signed, by certificates.sh publish
     log = "/var/log/vault/front.log"               # the front's; numbers that no line of it tells of are told
@@ -36,6 +38,7 @@ import http.client
 import itertools
 import json
 import os
+import pwd
 import re
 import socketserver
 import ssl
@@ -309,6 +312,41 @@ class Machine:
         return found
 
 
+class Ports:
+    """Whether a program of another account listens where the front asks a vault, and so gets card numbers."""
+
+    # 127.0.0.1 and all addresses, as the kernel writes them in both of its tables
+    ASKED = re.compile(r"0100007F|0{8}|0{32}|0{16}FFFF00000100007F")
+
+    def __init__(self, settings):
+        self.ports, self.account = settings.get("ports", [8087]), settings.get("account", "vault")
+
+    def collect(self):
+        foreign = gauge("vault_port_foreign", "Whether another account listens on a vault's port.", "port")
+        own, found = self.number(), set(self.listening())
+        for port in self.ports:
+            is_foreign = any(at == port and account != own for at, account in found)
+            foreign.add_metric([str(port)], 1 if is_foreign else 0)
+        return [foreign]
+
+    def number(self):
+        try:
+            return pwd.getpwnam(self.account).pw_uid
+        except KeyError:
+            return None
+
+    def listening(self):
+        """Each port on which somebody listens there, with the number of the account."""
+        for path in ("/proc/self/net/tcp", "/proc/self/net/tcp6"):
+            if not os.path.exists(path):
+                continue
+            for line in open(path).read().splitlines()[1:]:
+                _, local, _, state, _, _, _, account, *_ = line.split()
+                address, _, port = local.rpartition(":")
+                if state == "0A" and self.ASKED.fullmatch(address):
+                    yield int(port, 16), int(account)
+
+
 class Server(socketserver.ThreadingMixIn, WSGIServer):
     """Answers each scrape by itself, so one that says nothing holds up no other."""
 
@@ -334,7 +372,7 @@ def main(path):
         raise SystemExit(f"the certificates can't be used: {error}") from None
     unlogged = Unlogged(settings)
     merchants = Merchants(front, settings, unlogged)
-    for one in (merchants, unlogged, Ends(front, settings), Machine(settings)):
+    for one in (merchants, unlogged, Ends(front, settings), Machine(settings), Ports(settings)):
         registry.register(one)
     port, answering = settings.get("listen", 9187), make_wsgi_app(registry)
     with make_server("127.0.0.1", port, answering, server_class=Server, handler_class=Silent) as server:

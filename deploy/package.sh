@@ -25,8 +25,8 @@ place 755 "$program" /usr/bin/vault
 strip --strip-all "$root/usr/bin/vault"
 mkdir -p "$root/lib/systemd/system"
 sh "$here/units.sh" "$root/lib/systemd/system"
-for step in pause jumped room port listens answers watch thaw alarm counted moments newest backup-now \
-    backup.sh restore.sh again.sh exporter.py; do
+for step in pause check-lists check-port jumped room port port-holders listens answers watch thaw alarm \
+    counted moments newest backup-now backup.sh restore.sh again.sh exporter.py; do
     place 755 "$here/$step" "/usr/lib/vault/$step"
 done
 place 644 "$here/front_log.py" /usr/lib/vault/front_log.py
@@ -35,6 +35,7 @@ place 755 "$here/reload" /usr/lib/vault/reload
 place 644 "$here/vault.1" /usr/share/man/man1/vault.1
 gzip -9n "$root/usr/share/man/man1/vault.1"
 place 644 "$here/vault.bash-completion" /usr/share/bash-completion/completions/vault
+ln -s vault "$root/usr/share/bash-completion/completions/vault-look"
 doc=/usr/share/doc/vault
 examples=/usr/share/vault/examples
 for page in OPERATING.md SCALE.md STANDBY.md API.md REFUSALS.md PROVED.md MODEL.md TRIALS.md \

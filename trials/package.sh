@@ -30,6 +30,7 @@ for name in examples/nginx.conf examples/certificates.sh examples/rebuild.sh exa
     step "$name is in it" "$(holds grep -q " ./usr/share/vault/$name\$" inside)"
 done
 step "vault-look is in it" "$(holds grep -q ' ./usr/bin/vault-look$' inside)"
+step "its words are completed" "$(holds grep -q ' ./usr/share/bash-completion/completions/vault-look$' inside)"
 # The units that are in it.
 mkdir units
 step "the units are made" "$(holds sh "$deploy/units.sh" units)" "$(cat said)"
@@ -37,7 +38,7 @@ left=$(grep '%i\|^#one' units/vault.service units/vault-backup.service units/vau
 step "those for one vault name no instance" "$([ -z "$left" ] && echo yes || echo no)" "$left"
 # What a unit or one of its scripts calls is in it, and isn't among the documents, which an image may leave
 # out.
-sed -n 's#^Exec[A-Za-z]*=[+-]*\(/usr/[^ ]*\).*#\1#p' units/*.service | grep /vault > called
+grep '^Exec' units/*.service | grep -o '/usr/\(bin\|lib/vault\)/[^ ]*' | grep vault > called
 for script in $(sed -n 's#^/usr/lib/vault/##p' called | sort -u); do
     grep -o '/usr/lib/vault/[a-z.-]*\|\$lib/[a-z.-]*' "$deploy/$script" | sed 's#^\$lib#/usr/lib/vault#' || :
 done >> called
@@ -91,6 +92,12 @@ for command in $completed; do
         bash "$deploy/vault.bash-completion" "$command" | sort > offered
     step "the options of $command are completed" "$(holds diff options offered)" "$(cat said)"
 done
+
+# So are those of vault-look.
+"$deploy/vault-look" help 2>&1 | sed -n 's/^vault-look \[--folder FOLDER\] \([a-z]*\).*/\1/p' | sort > words
+bash -c '. "$1"; COMP_WORDS=(vault-look "") COMP_CWORD=1; _vault_look; printf "%s\n" "${COMPREPLY[@]}"' \
+    bash "$deploy/vault.bash-completion" | grep -v '^--' | sort > offered
+step "the words of vault-look are completed" "$(holds diff words offered)" "$(cat said)"
 
 # Installed, run and removed, by root and where no vault is: nothing of one that is there is touched.
 is_free() { [ ! -e /usr/bin/vault ] && [ ! -e /var/lib/vault ] && ! getent passwd vault > /dev/null; }

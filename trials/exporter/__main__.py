@@ -34,6 +34,8 @@ listen = 0
 every = 0.5
 folders = [".", "/", "/nowhere"]
 volumes = [".", "/"]
+ports = {ports}
+account = "root"
 """
 MERCHANTS = ["shop1", "shop2", "nobody"]
 DAY = 86400
@@ -43,9 +45,10 @@ FAKETIME = "/usr/lib/x86_64-linux-gnu/faketime/libfaketime.so.1"
 class Exporter:
     """The exporter as a process; it is over at the end of a `with`."""
 
-    def __init__(self, python, repository, port, caller="watch", merchants=MERCHANTS, **environment):
+    def __init__(self, python, repository, port, caller="watch", merchants=MERCHANTS, ports=(), **environment):
         with open("exporter.toml", "w") as file:
-            file.write(SETTINGS.format(port=port, caller=caller, merchants=json.dumps(merchants)))
+            lists = {"merchants": json.dumps(merchants), "ports": json.dumps(list(ports))}
+            file.write(SETTINGS.format(port=port, caller=caller, **lists))
         words = [python, f"{repository}/deploy/exporter.py", "exporter.toml"]
         self.errors = open("exporter.err", "w+")
         more = {"env": {**os.environ, **environment}} if environment else {}
@@ -247,6 +250,37 @@ def jumped(tally, python, repository, port):
         tally.judge("a clock that jumped", unlike(far, True))
 
 
+def listener(account, address):
+    """A socket of an account's own that listens, with its port."""
+    family = socket.AF_INET6 if ":" in address else socket.AF_INET
+    os.seteuid(account)
+    try:
+        return socket.create_server((address, 0), family=family, dualstack_ipv6=address == "::")
+    finally:
+        os.seteuid(0)
+
+
+def ports(tally, python, repository, port, vault):
+    """Whose program listens on a port where the front asks a vault."""
+    if os.getuid() != 0:
+        print("not root: a program of another account is left out")
+        return
+    with contextlib.ExitStack() as open_ones:
+        asked = {"a vault's own": (vault.port, 0), "nobody's": (9, 0)}
+        for name, account, address, wanted in (
+            ("another account's", 65534, "127.0.0.1", 1),
+            ("one at all addresses", 65534, "0.0.0.0", 1),
+            ("one at all of both kinds", 65534, "::", 1),
+            ("one where no front asks", 65534, "127.0.0.2", 0),
+        ):
+            held = open_ones.enter_context(listener(account, address))
+            asked[name] = held.getsockname()[1], wanted
+        with Exporter(python, repository, port, ports=[it for it, _ in asked.values()]) as exporter:
+            seen = exporter.values()
+        for name, (at, wanted) in asked.items():
+            tally.judge(f"the port is {name}", unlike(seen.get(("vault_port_foreign", str(at))), wanted))
+
+
 def no_more(tally, port):
     """The exporter's caller has the right `audit` and no other: its key brings no number back."""
     watch, target = Client(port, "watch"), "/v1/merchants/shop1/tokens"
@@ -310,6 +344,7 @@ def main(program, repository, python):
                 no_more(tally, front.port)
                 away(tally, exporter, vaults[0])
             jumped(tally, python, repository, front.port)
+            ports(tally, python, repository, front.port, vaults[0])
             without(tally, python, repository, front)
             hung(tally, python, repository, front, vaults[0])
             with Exporter(python, repository, front.port) as exporter:

@@ -7,6 +7,7 @@ import sqlite3
 import subprocess
 import sys
 
+from operating import port
 from operating.page import blocks
 from shared.asking import Asked
 from shared.machine import Machine, says
@@ -14,10 +15,13 @@ from shared.schemas import tables
 from shared.tally import Tally, unlike
 
 NUMBER = "4111111111111111"
+# both merchants' vaults give the exporter counts
+UP = r'^vault_up\{merchant="shop1"\} 1[\s\S]*^vault_up\{merchant="shop2"\} 1'
 # What each block says as it is typed, section by section: a pattern that stands in its output.
 SAYS = {
     "Install": (r"vault [0-9.]*, schema 4",),
     "The clock": ("",),
+    "Who may connect": (r"\A(Created symlink .*\n)?\Z",),
     "The first merchant": (
         *(r"^done$", ""),
         r"^merchant shop1 single 86400 .*\nright back shop1 detokenize[\s\S]*^sound 1 0 0$",
@@ -25,7 +29,6 @@ SAYS = {
         "",
         r"^merchants set 1 at [0-9]+$",
     ),
-    "Who may connect": ("",),
     "Certificates": ("",),
     "The front": (r"test is successful",),
     "The first token": (r'^\{"expires":[0-9]+,"token":"[0-9]{12}1111"\}',),
@@ -37,8 +40,8 @@ SAYS = {
     "A till was stolen": (r"^revoked 1$[\s\S]*^rights granted 0 withdrawn 1 at [0-9]+$",),
     "The authority is renewed": ("", ""),
     "HAProxy in place of nginx": ("",),
-    "Several vaults": (r"^done\ndone$",),
-    "What to watch": ("", r'^vault_up\{merchant="shop2"\} 1'),
+    "Several vaults": (r"^merchants set 1$",),
+    "What to watch": ("", UP),
 }
 
 
@@ -72,6 +75,46 @@ def listening(tally, machine):
     says(tally, machine, "the unit waits for the clock", "systemctl show -p After vault", "time-sync.target")
 
 
+def named(tally, machine):
+    """A caller's name is what the fronts take, and nothing else of it reaches a command."""
+    for name in (r"$'back\nx'", r"$'back\n'", "-x", "''", "Back", "a23456789-1234567"):
+        made = f"$examples/certificates.sh caller /srv/authority {name}"
+        says(tally, machine, f"{name} is no name", made, "is no caller's name", well=False)
+    sign = "openssl req -new -key back.key -subj /CN=x -out /srv/x.csr\n"
+    signed = f"{sign}$examples/certificates.sh sign /srv/authority -x /srv/x.csr"
+    says(tally, machine, "nor is one for a request", signed, "is no caller's name", well=False)
+    host = r"$examples/certificates.sh server /srv/authority $'localhost\nDNS:x'"
+    says(tally, machine, "nor is such a name a machine's", host, "is no name of a machine", well=False)
+
+
+def watched(tally, machine):
+    """Each merchant has its counts after a start too; then alarms."""
+    again = "systemctl restart vault vault@north vault-exporter; sleep 1\n"
+    scrape = "curl -s --retry 5 --retry-connrefused http://127.0.0.1:9187/metrics | grep '^vault'\n"
+    says(tally, machine, "each merchant is seen after a start", again + scrape, UP)
+    ports = r'^vault_port_foreign\{port="8087"\} 0\.0\nvault_port_foreign\{port="8088"\} 0\.0$'
+    says(tally, machine, "no port is another's", scrape, ports)
+    foreign = """systemd-run --quiet --unit=other --uid=nobody python3 -c 'if True:
+    import socket, time
+    it = socket.create_server(("127.0.0.1", 8088)); time.sleep(9)'
+sleep 0.5
+"""
+    at = f"systemctl stop vault@north\n{foreign}{scrape}systemctl stop other; systemctl start vault@north\n"
+    says(tally, machine, "one that is another's", at, r'^vault_port_foreign\{port="8088"\} 1\.0$')
+    alarms(tally, machine)
+
+
+def looked(tally, machine):
+    """vault-look answers from any folder, and about a file of the folder where it is typed."""
+    here = "chmod 700 /root; cd /root; vault-look list 2>&1; cd /srv"
+    wanted = r"\Aof /var/backups/vault/.*\nmerchant shop1"
+    says(tally, machine, "vault-look from a folder of root's", here, wanted)
+    grown = """sed 's/^single = .*/single = 60/' /etc/vault/merchants.toml > /srv/later.toml
+vault-look merchants later.toml
+"""
+    says(tally, machine, "what a list of merchants would set", grown, "^merchant shop1 single 60 multi")
+
+
 def logs(tally, machine):
     """A number typed where a token belongs isn't in a log, and the logs are for a few."""
     wrong = as_caller("back", f"/tokens/{NUMBER}")
@@ -85,6 +128,13 @@ def logs(tally, machine):
     says(tally, machine, "and once they were turned", turned, r"640 www-data\n640 www-data\n\Z")
     workers = "for it in $(pidof nginx); do stat -c %U /proc/$it; done | sort | uniq -c"
     says(tally, machine, "the front's workers have a user", workers, "www-data")
+
+
+def stolen_port(tally, machine):
+    """Another account at the vault's port, the rule for it, and the front that ends with the rule."""
+    port.bound(tally, machine, "nginx")
+    port.unguarded(tally, machine)
+    port.taken(tally, machine, "/srv/authority", ["a restart", "a full disk"])
 
 
 def copies(tally, machine):
@@ -232,6 +282,8 @@ def waited_for(tally, machine):
     url = "http://127.0.0.1:8087/v1/merchants/shop1/audit"
     ask = f"runuser -u nobody -- curl -s -H 'X-Vault-Caller: back' {url}"
     says(tally, machine, "the port isn't for others still", ask, "", well=False)
+    port.bound(tally, machine, "haproxy")
+    port.taken(tally, machine, "/srv/authority-2", ["an opening"])
 
 
 def several(tally, machine):
@@ -267,15 +319,18 @@ def main(program, repository):
     tally.judge("each block is typed", unlike({it for it in page if page[it]}, set(SAYS)))
     afterwards = {
         "Install": functools.partial(first_vault, readme=f"{repository}/README.md"),
-        "Who may connect": listening,
+        "The first merchant": listening,
+        "Certificates": named,
         "The first token": logs,
+        "The log": stolen_port,
+        "Backup": looked,
         "Restore": copies,
         "Upgrade": functools.partial(moved, page=page, repository=repository),
         "A till was stolen": stolen,
         "The authority is renewed": renewed,
         "HAProxy in place of nginx": waited_for,
         "Several vaults": several,
-        "What to watch": alarms,
+        "What to watch": watched,
     }
     package = ["sh", f"{repository}/deploy/package.sh", program, "."]
     made = subprocess.run(package, check=True, capture_output=True, text=True).stdout.strip()

@@ -6,10 +6,11 @@ import signal
 import subprocess
 import sys
 
+from operating.page import blocks
 from shared.machine import Machine, says
 from shared.runs import until
 from shared.tally import Tally
-from units import copies, disks, restored, services
+from units import copies, disks, restored, services, starts
 
 FILE = "/var/lib/vault/vault.db"
 # What each shell of the machine begins with, and the shop that the units serve.
@@ -28,12 +29,14 @@ chmod 755 /etc/vault/alarm
 
 
 def installed(tally, machine, program, repository):
-    """The package, on an image without documents."""
+    """The package, on an image without documents, and the rule for its port, as the page has it."""
     package = ["sh", f"{repository}/deploy/package.sh", program, f"{machine.folder}/srv"]
     subprocess.run(package, check=True, capture_output=True, text=True)
     without = "printf 'path-exclude=/usr/share/doc/*\\n' > /etc/dpkg/dpkg.cfg.d/01_nodoc\n"
-    install = f"{without}apt-get install -y /srv/vault_*.deb curl"
+    install = f"{without}apt-get install -y /srv/vault_*.deb curl nftables"
     says(tally, machine, "the package is installed without documents", install + "\n" + SHELL + ALARM, "")
+    rule = blocks(f"{repository}/docs/OPERATING.md")["Who may connect"][0]
+    says(tally, machine, "its port has its rule", rule, "")
 
 
 # A trial that boots a machine, says its first process, and is killed.
@@ -81,6 +84,8 @@ def of_outages(tally, machine, step):
     """What takes the service away: its file, the clock, a port, a hang, its volume."""
     disks.no_file(step)
     shop(step)
+    starts.orders(step)
+    starts.lists(step)
     services.jumped(step)
     # a copy is made of a service that has been frozen
     services.killed_frozen(step)
