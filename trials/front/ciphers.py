@@ -12,6 +12,8 @@ STRONG = re.compile(
     r"TLSv1\.3 +[0-9]+ bits +TLS_(AES_256_GCM_SHA384|CHACHA20_POLY1305_SHA256|AES_128_GCM_SHA256)\b"
     r"|TLSv1\.2 +[0-9]+ bits +ECDHE-(ECDSA|RSA)-(AES(128|256)-GCM-SHA(256|384)|CHACHA20-POLY1305)\b"
 )
+# its defaults, and what may be wrong beside what sslscan sees: CCS, Ticketbleed, renegotiation, compressed bodies
+ATTACKS = ("-S", "-I", "-T", "-R", "-B")
 # the trial's authority is a file: it says nowhere on the net whose certificates it took back, and no record of a
 # domain names it
 NOT_OF_A_FRONT = {"cert_revocation", "DNS_CAArecord"}
@@ -34,7 +36,7 @@ class Scan:
         words += ("--add-ca", "callers.pem", "--openssl-timeout", "5", "--severity", "LOW")
         if is_there("testssl"):
             self.process = subprocess.Popen(
-                ["nice", "testssl", *words, "--jsonfile", "found.json", "-S", "-U", f"localhost:{port}"],
+                ["testssl", *words, "--jsonfile", "found.json", *ATTACKS, f"localhost:{port}"],
                 stdout=subprocess.DEVNULL,
                 stdin=subprocess.DEVNULL,
             )

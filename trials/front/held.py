@@ -117,17 +117,18 @@ def judge(tally, port, hanging, sides):
             judge_kind(tally, port, name, Held(port, caller, sent, name == "that drip"))
     finally:
         os.kill(hanging.process.pid, signal.SIGCONT)
-    judge_kind(tally, port, "that say nothing", Held(port, None, None))
+    # those that say nothing end by themselves, so nobody waits for that
+    judge_kind(tally, port, "that say nothing", Held(port, None, None), seconds=3)
     for place, side in enumerate(sides):
-        judge_kind(tally, port, f"to its side {place + 1} that say nothing", Held(side, None, None))
+        judge_kind(tally, port, f"to its side {place + 1} that say nothing", Held(side, None, None), seconds=3)
     within = Held(port, None, None, address=SHOP)
-    judge_kind(tally, port, "in a shop that say nothing", within, SHOP)
+    judge_kind(tally, port, "in a shop that say nothing", within, SHOP, 3)
     tills = Held(port, "guest", b"", address=CROWDED, many=TILLS)
-    judge_kind(tally, port, "of tills behind an address", tills, CROWDED)
+    judge_kind(tally, port, "of tills behind an address", tills, CROWDED, 3)
 
 
-def judge_kind(tally, port, name, held, address=None):
-    """One kind, and another caller at an address of its own or at theirs."""
+def judge_kind(tally, port, name, held, address=None, seconds=20):
+    """One kind, and another caller at an address of its own or at theirs: it has its answers within so long."""
     told = []
 
     def all_in_time():
@@ -137,7 +138,7 @@ def judge_kind(tally, port, name, held, address=None):
         return told[-1] is not None and told[-1] <= WITHIN
 
     with held:
-        fits = until(all_in_time, 20)
+        fits = until(all_in_time, seconds)
         shown = ", ".join("none" if it is None else f"{it:.1f} s" for it in told)
         tally.judge(f"{held.many} connections {name} leave room for another caller", "" if fits else shown)
         slowest = max(it or 99 for it in told)
