@@ -31,7 +31,10 @@ install -d /var/log/vault; install -d -m 750 -g haproxy /var/lib/haproxy/vault
 install -m 644 /usr/share/vault/examples/logs/rsyslog.conf /etc/rsyslog.d/48-vault.conf
 systemctl restart rsyslog
 line() { printf '{"time":"2026-12-01T00:00:00Z","caller":"%s","status":200}|{"asked":"purge"}' $1; }
-as() { setpriv --reuid=$1 --regid=$1 --clear-groups -- logger --socket-errors=on -t haproxy -p local0.info "$2" "$3" "$4"; }
+as() {
+    setpriv --reuid=$1 --regid=$(id -g $1) --clear-groups -- \\
+        logger --socket-errors=on -t haproxy -p local0.info "$2" "$3" "$4"
+}
 as haproxy -u /var/lib/haproxy/vault/log "$(line first)"
 systemctl restart rsyslog; as haproxy -u /var/lib/haproxy/vault/log "$(line second)"
 sleep 1; cat /var/log/vault/front.log; stat -c '%a %U %G' /var/lib/haproxy/vault /var/log/vault/taken.log
