@@ -84,33 +84,33 @@ class Log:
         first = file.readline(LONGEST)
         return hashlib.sha256(first).hexdigest() if first.endswith(b"\n") else ""
 
+    def unread(self):
+        """The files that have something new, the oldest first, and how far the first one was read."""
+        name, offset = self.place
+        for _ in range(2):  # a file may be turned between two looks
+            paths = kept(self.path)
+            for count, path in enumerate(reversed(paths), 1):
+                with opened(path) as file:
+                    if name and self.named(file) == name:
+                        return paths[-count:], offset
+        # nothing was read before, or the file is gone, and what is new stands in the newest one
+        return paths[-1:] if name else paths, 0
+
     def new(self):
         """The lines that came since; a file that was turned is read to its end first."""
-        name, offset = self.place
-        paths = kept(self.path)
-        for count, path in enumerate(reversed(paths), 1):
-            with opened(path) as file:
-                found = self.named(file)
-            if name and found == name:
-                paths = paths[-count:]
-                break
-        else:
-            # nothing was read before, or the file is gone, and what is new stands in the newest one
-            offset, paths = 0, paths[-1:] if name else paths
+        paths, offset = self.unread()
         for path in paths:
-            yield from self.rest(path, offset)
+            with opened(path) as file:
+                name = self.named(file)
+                if offset and name != self.place[0]:
+                    return
+                file.seek(offset)
+                for line, size, whole in lines(file):
+                    if whole:
+                        offset += size
+                        self.place = [name, offset]
+                        yield line
             offset = 0
-
-    def rest(self, path, offset):
-        """The lines of one file from there on."""
-        with opened(path) as file:
-            name = self.named(file)
-            file.seek(offset)
-            for line, size, whole in lines(file):
-                if whole:
-                    offset += size
-                    self.place = [name, offset]
-                    yield line
 
 
 class Account:

@@ -99,12 +99,12 @@ def carried_out(tally, repository):
 
 def by_logger(tally):
     """An account without rights writes to each socket of rsyslog, as HAProxy would."""
-    line = f" {SOUND.format(TIME, 'director', '****1111', 'detokenize')}"
-    line += "|" + SOUND.format(TIME, "back", TOKEN, "purge")
+    line = SOUND.format(TIME, "director", "****1111", "detokenize")
+    line += "|" + SOUND.format(TIME, "back", "****1111", "purge")  # other logs have no ten digits either
     os.chmod(".", 0o755)
     before = [lines.read(it) for it in ("front.log", "taken.log")]
     nobody = ["setpriv", "--reuid=65534", "--regid=65534", "--clear-groups"]
-    nobody += ["logger", "-t", "haproxy", "-p", "local0.info"]
+    nobody += ["logger", "--socket-errors=on", "-t", "haproxy", "-p", "local0.info"]
     sent = [
         subprocess.run([*nobody, "-u", f"nowhere/{it}/log", line], capture_output=True, text=True).stderr
         for it in ("dev", "vault")
