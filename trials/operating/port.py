@@ -44,7 +44,7 @@ THIEF = """systemctl reset-failed thief 2> /dev/null || true
 systemctl restart vault-watch@vault.service
 date +%s > /srv/since
 systemd-run --quiet --unit=thief --uid=nobody -p StandardOutput=truncate:/srv/thief.out \\
-    python3 /srv/thief.py 8087 14
+    python3 /srv/thief.py 8087 60
 """
 TILLS = """for turn in $(seq 11); do
     asking=
@@ -56,8 +56,8 @@ TILLS = """for turn in $(seq 11); do
     for one in $asking; do wait $one || true; done
 done
 """
-ENDED = awaited('[ "$(systemctl is-active thief)" != active ]', 20) + "cat /srv/thief.out\n"
 TOLD = "journalctl -t vault -o cat --no-pager --since @$(cat /srv/since)"
+ENDED = awaited(f"{TOLD} | grep -q 'taken by another'", 30) + "sleep 11; systemctl stop thief; cat /srv/thief.out\n"
 HELD = r"has its port 8087 taken by another program: uid 65534 \(nobody\), process [0-9]+ \(python3\)$"
 
 
