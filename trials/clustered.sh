@@ -49,6 +49,22 @@ volume() {
         mv said dumped
         step "a write waits for both there" "$(holds grep -Eq 'protocol[[:space:]]+C;' dumped)" "$(cat dumped)"
     done
+    typed
+}
+
+# The same file as the page changes it where no cluster runs: a machine that lost the other one writes nothing
+# until `outdate` has ended.
+typed() {
+    turned=$(sed -n "s#^sed -i \(-e .*\) /etc/drbd.d/vault.res\$#\1#p" "$here/../docs/STANDBY.md")
+    eval "sed $turned" < "$standby/vault.res" > typed.res
+    sed -i 's#include .*#include "typed.res";#' drbd.conf
+    taken=$(holds env __DRBD_NODE__=vault-a "$reader" -c drbd.conf dump vault)
+    step "$reader takes the volume without a cluster" "$taken" "$(cat said)"
+    mv said dumped
+    for line in 'fence-peer +"/usr/lib/vault/outdate other";' 'fencing +resource-and-stonith;'; do
+        step "it has $line" "$(holds grep -Eq "$line" dumped)" "$(cat dumped)"
+    done
+    step "and nothing of a cluster" "$(holds sh -c '! grep -q crm- dumped')" "$(cat dumped)"
 }
 
 # pacemaker's: crm reads the file into a cluster of two machines that see each other, and that doesn't run;
