@@ -1,6 +1,7 @@
 #!/bin/sh
 # The files of a standby, read by the programs that they are for: HAProxy's, DRBD's, pacemaker's and systemd's.
-# Nothing is started, and `take-over` asks stand-ins. Where a program isn't there and can't be installed, its steps are left out.
+# Nothing is started, and `take-over` asks stand-ins. Where a program isn't there and can't be installed, its
+# steps are left out.
 # sh trials/clustered.sh [PROGRAM]
 set -eu
 . "$(dirname "$0")/shared/begin.sh"
@@ -71,8 +72,8 @@ typed() {
 stand_ins() {
     mkdir bin
     # shellcheck disable=SC2016
-    printf '#!/bin/sh\ncase $1 in\nsh-minor) echo 0 ;;\ndump) cat dumped ;;\ndstate) cat disks ;;\n%s\nesac\n' \
-        "primary) echo \"\$*\" > primary ;;" > bin/drbdadm
+    printf '#!/bin/sh\ncase $1 in\nsh-minor) echo 0 ;;\ndump) cat dumped ;;\ndstate) cat disks ;;\n%s' \
+        'primary) echo "$*" > primary ;; esac' > bin/drbdadm
     printf '#!/bin/sh\ncat shown\n' > bin/drbdsetup
     chmod 755 bin/drbdadm bin/drbdsetup
     for script in take-over outdate; do
@@ -112,7 +113,7 @@ typed_takeover() {
         echo "${case#*:}" > disks
         status=0
         PATH=$PWD/bin:$PATH sh outdate this || status=$?
-        step "outdate ends with ${case%%:*} at ${case#*:}" "$(holds [ "$status" = "${case%%:*}" ])" "$status"
+        step "outdate: ${case%%:*} at ${case#*:}" "$(holds [ "$status" = "${case%%:*}" ])" "$status"
     done
 }
 

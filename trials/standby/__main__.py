@@ -26,13 +26,14 @@ def clustered(tally, pair, tills, many, seed):
 
 
 def tried(tally, pair, many, seed):
-    """Both machines from nothing, and each fault; at the end without a cluster."""
+    """Both machines from nothing, and each fault; or those of a pair without a cluster."""
     print(f"both machines are up after {pair.boot():.0f} s", flush=True)
     pair.volume()
     with Tills() as tills:
-        if many != "typed":
+        if many == "typed":
+            typed(tally, pair, tills)
+        else:
             clustered(tally, pair, tills, int(many), int(seed or time.time()))
-        typed(tally, pair, tills)
 
 
 def main(many="10", seed=None):
