@@ -60,6 +60,7 @@ place 755 "$here/logs/who.py" "$examples/logs/who.py"
 for file in vault.res corosync.conf cluster.crm standby.conf cable.network relay.cfg; do
     place 644 "$here/standby/$file" "$examples/standby/$file"
 done
+for step in take-over outdate; do place 755 "$here/standby/$step" "/usr/lib/vault/$step"; done
 for file in index.html office.css office.js; do
     place 644 "$here/office/$file" "/usr/share/vault/office/$file"
 done

@@ -1,6 +1,7 @@
 #!/bin/sh
 # The files of a standby, read by the programs that they are for: HAProxy's, DRBD's, pacemaker's and systemd's.
-# Nothing is started. Where a program isn't there and can't be installed, its steps are left out.
+# Nothing is started, and `take-over` asks stand-ins. Where a program isn't there and can't be installed, its
+# steps are left out.
 # sh trials/clustered.sh [PROGRAM]
 set -eu
 . "$(dirname "$0")/shared/begin.sh"
@@ -49,6 +50,71 @@ volume() {
         mv said dumped
         step "a write waits for both there" "$(holds grep -Eq 'protocol[[:space:]]+C;' dumped)" "$(cat dumped)"
     done
+    typed
+}
+
+# The same file as the page changes it where no cluster runs: a machine that lost the other one writes nothing
+# until `outdate` has ended.
+typed() {
+    turned=$(sed -n "s#^sed -i \(-e .*\) /etc/drbd.d/vault.res\$#\1#p" "$here/../docs/STANDBY.md")
+    eval "sed $turned" < "$standby/vault.res" > typed.res
+    sed -i 's#include .*#include "typed.res";#' drbd.conf
+    taken=$(holds env __DRBD_NODE__=vault-a "$reader" -c drbd.conf dump vault)
+    step "$reader takes the volume without a cluster" "$taken" "$(cat said)"
+    mv said dumped
+    for line in 'fence-peer +"/usr/lib/vault/outdate other";' 'fencing +resource-and-stonith;'; do
+        step "it has $line" "$(holds grep -Eq "$line" dumped)" "$(cat dumped)"
+    done
+    step "and nothing of a cluster" "$(holds sh -c '! grep -q crm- dumped')" "$(cat dumped)"
+}
+
+# What `take-over` and `outdate` ask of DRBD, answered by stand-ins: the state is a line in a file.
+stand_ins() {
+    mkdir bin
+    # shellcheck disable=SC2016
+    printf '#!/bin/sh\ncase $1 in\nsh-minor) echo 0 ;;\ndump) cat dumped ;;\ndstate) cat disks ;;\n%s' \
+        'primary) echo "$*" > primary ;; esac' > bin/drbdadm
+    printf '#!/bin/sh\ncat shown\n' > bin/drbdsetup
+    chmod 755 bin/drbdadm bin/drbdsetup
+    for script in take-over outdate; do
+        sed -e "s#/proc/drbd#$PWD/state#; s#/run/#$PWD/#; s#^ends 20 #ends 0 #" "$standby/$script" > "$script"
+    done
+    echo 'fence-peer "/usr/lib/vault/outdate other";' > dumped
+    echo 'fencing resource-and-stonith;' > shown
+}
+
+# One takeover: its name, the status it has to end with, what it has to make primary, the connection and the
+# disks, and the words after the first one.
+took() {
+    name=$1 wanted="$2 $3"
+    printf ' 0: cs:%s ro:Secondary/Unknown ds:%s C r-----\n' "$4" "$5" > state
+    shift 5
+    rm -f primary
+    status=0
+    PATH=$PWD/bin:$PATH sh take-over --power-is-cut "$@" > said 2>&1 || status=$?
+    found="$status $(cat primary 2> /dev/null || echo nothing)"
+    told=$(cat said)
+    step "$name" "$(holds [ "$found" = "$wanted" ])" "$found: $told"
+}
+
+# A typed takeover takes a disk that lacks nothing, and refuses each other one.
+typed_takeover() {
+    stand_ins
+    took "a current disk is taken" 0 "primary vault" WFConnection UpToDate/DUnknown
+    took "an outdated one isn't" 1 nothing WFConnection Outdated/DUnknown
+    took "nor one that started alone" 1 nothing WFConnection Consistent/DUnknown
+    took "nor half a copy" 1 nothing WFConnection Inconsistent/DUnknown
+    took "nor half a copy by any word" 1 nothing WFConnection Inconsistent/DUnknown --lose-answers
+    took "an outdated one is, by a word" 0 "primary --force vault" WFConnection Outdated/DUnknown --lose-answers
+    took "nor if the other machine is there" 1 nothing Connected UpToDate/UpToDate
+    echo 'fencing dont-care;' > shown
+    took "nor if nothing was held back" 1 nothing WFConnection UpToDate/DUnknown
+    for case in 0:Outdated/DUnknown 5:Inconsistent/DUnknown 1:UpToDate/UpToDate 1:Consistent/DUnknown; do
+        echo "${case#*:}" > disks
+        status=0
+        PATH=$PWD/bin:$PATH sh outdate this || status=$?
+        step "outdate: ${case%%:*} at ${case#*:}" "$(holds [ "$status" = "${case%%:*}" ])" "$status"
+    done
 }
 
 # pacemaker's: crm reads the file into a cluster of two machines that see each other, and that doesn't run;
@@ -84,6 +150,7 @@ drop_in() {
 
 if need haproxy haproxy && need openssl openssl; then fronts; else echo "haproxy's steps are left out"; fi
 if need drbdadm drbd-utils; then volume; else echo "drbdadm's steps are left out"; fi
+if [ "$(id -u)" = 0 ]; then typed_takeover; else echo "root's steps are left out"; fi
 if need crm crmsh && need crm_verify pacemaker-cli-utils; then cluster; else echo "crm's steps are left out"; fi
 if need systemd-analyze systemd; then drop_in; else echo "systemd-analyze's step is left out"; fi
 counted

@@ -2,6 +2,7 @@
 # A standby, by the files of deploy/standby: two machines that qemu emulates, with DRBD, pacemaker and the
 # package's unit, behind the front on a third place. The power of the one that serves is cut while sixteen tills
 # ask, and each answer that went out is asked for again. Its folder takes 8 GB of a disk, and none in memory.
+# With `typed` in place of CUTS there is no cluster, and somebody types the takeover.
 # By root. sh trials/standby.sh [PROGRAM] [CUTS] [SEED]
 set -eu
 . "$(dirname "$0")/shared/begin.sh"
