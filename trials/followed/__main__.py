@@ -5,8 +5,8 @@ import os
 import sys
 import time
 
-from followed.lists import END, MERCHANTS, RIGHTS, TILLS, WAYS, merchants, renamed, rights, short, sweepers
-from followed.lists import written
+from followed.lists import END, MERCHANTS, RIGHTS, TILLS, WAYS, filled, merchants, renamed, rights, short
+from followed.lists import sweepers, written
 from followed.load import Load
 from followed.service import LATEST, ONE_LOOK, TWO_LOOKS, Followed, followed, words
 from shared.runs import run
@@ -135,16 +135,18 @@ class Trial:
             written(RIGHTS, rights())
 
     def ways(self):
-        """A caller comes and goes, and a life changes, by each way of changing a file."""
+        """A caller comes and goes, and a life changes, by each way of changing a file. Half of a file that is
+        filled up slowly is seen by two looks: first it is said that it isn't whole."""
         for place, way in enumerate(WAYS):
-            name = way.__name__
+            name, is_cut = way.__name__, way is filled
+            of_rights, of_merchants = ([f"{it} unfinished"] * is_cut for it in ("rights", "merchants"))
             way(RIGHTS, rights("guest"))
-            self.in_force(f"{name}, a right more", has_guest, "rights granted 1 withdrawn 0")
+            self.in_force(f"{name}, a right more", has_guest, *of_rights, "rights granted 1 withdrawn 0")
             lives = functools.partial(Followed.has_life, seconds=3600 * (place + 1))
             way(MERCHANTS, merchants(single=3600 * (place + 1)))
-            self.in_force(f"{name}, another life", lives, "merchants set 1")
+            self.in_force(f"{name}, another life", lives, *of_merchants, "merchants set 1")
             way(RIGHTS, rights())
-            self.in_force(f"{name}, a right fewer", lacks_guest, "rights granted 0 withdrawn 1")
+            self.in_force(f"{name}, a right fewer", lacks_guest, *of_rights, "rights granted 0 withdrawn 1")
 
     def kills(self):
         """The service is killed as both lists change: at the next start both are in force."""

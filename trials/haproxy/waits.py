@@ -61,7 +61,8 @@ def restarted(tally, port, vault):
 
 def relisted(tally, port, vault):
     """A change of rights is an edited file and a restart: a wait for whoever asks meanwhile, and no error."""
-    vault.list("[till-1]\nshop1 = ['tokenize']\n[back]\nshop1 = ['detokenize']\n[guest]\nshop1 = ['audit']\n# end\n")
+    till = "[till-1]\nshop1 = ['tokenize']\n"
+    vault.list(f"{till}[back]\nshop1 = ['detokenize']\n[guest]\nshop1 = ['audit']\n# end\n")
     load = Load(port)
     load.run(vault, 1, first=2 * MESSAGES + 1, by=vault.stop)
     told = {status: load.statuses.count(status) for status in set(load.statuses)}
@@ -69,7 +70,7 @@ def relisted(tally, port, vault):
     for caller, status in (("guest", 200), ("back", 403)):
         answer = Client(port, caller).ask("GET", "/v1/merchants/shop1/audit")
         tally.judge(f"what is listed counts from then on for {caller}", unlike(answer.status, status))
-    vault.list("[till-1]\nshop1 = ['tokenize']\n[back]\nshop1 = ['detokenize', 'audit']\n# end\n")
+    vault.list(f"{till}[back]\nshop1 = ['detokenize', 'audit']\n# end\n")
     vault.stop()
     vault.start()
     answer = Client(port, "back").ask("GET", "/v1/merchants/shop1/audit")
