@@ -176,7 +176,7 @@ class Merchants(threading.Thread):
 
 
 class Unlogged:
-    """Card numbers that went out by no line of the front's log, if the settings name that."""
+    """Card numbers that went out by no line of the front's log, and who was refused, if the settings name it."""
 
     def __init__(self, settings):
         folder = os.environ.get("STATE_DIRECTORY")
@@ -203,7 +203,11 @@ class Unlogged:
             if account.base is not None:
                 unlogged.add_metric([merchant], account.unlogged)
         seen.add_metric([], 0 if self.ledger.fault else 1)
-        return [unlogged, seen]
+        refused = gauge("vault_caller_refused", "Refusals of a caller in the last hour.", "caller", "status")
+        with self.ledger.lock:
+            for (caller, status), count in self.ledger.refusals.counts():
+                refused.add_metric([caller, str(status)], count)
+        return [unlogged, seen, refused]
 
 
 def told_by_openssl(kind, words, text):

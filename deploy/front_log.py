@@ -22,6 +22,10 @@ KEEP = 10  # seconds before the ledger is written again
 DOUBT = 120  # seconds in which a request that may have brought a number back stands for one
 STILL = 5  # seconds in which a count has to stand still, so that a time divides the log's lines
 MARKS = 80  # of a merchant, two for each day
+# Refusals that tell of somebody who guesses: another card number for a used request number, and a limit's.
+REFUSED = (409, 429)
+REFUSED_FOR = 3600  # seconds in which one counts
+REFUSED_MOST = 10000  # of a caller by one of them
 
 
 def opened(path):
@@ -174,6 +178,26 @@ class Account:
             self.unlogged += max(0, excess)
 
 
+class Refusals:
+    """How often each caller was refused by 409 and by 429 in the last hour."""
+
+    def __init__(self):
+        self.times = collections.defaultdict(lambda: collections.deque(maxlen=REFUSED_MOST))
+
+    def line(self, told):
+        """A request that the log has."""
+        if told["status"] in REFUSED:
+            self.times[told["caller"], told["status"]].append(time.monotonic())
+
+    def counts(self):
+        """Each caller with a status, and how often it had that."""
+        since = time.monotonic() - REFUSED_FOR
+        for who, times in sorted(self.times.items()):
+            while times and times[0] < since:
+                times.popleft()
+            yield who, len(times)
+
+
 class Ledger:
     """The accounts of some merchants, by the log at PATH. They are kept in a file, if one is named, so that
     nothing is missed while nobody looks."""
@@ -183,7 +207,7 @@ class Ledger:
         kept_before = loaded(file)
         found = kept_before.get("merchants", {})
         self.accounts = {it: Account(**found.get(it, {})) for it in merchants}
-        self.log, self.fault = None, ""
+        self.log, self.fault, self.refusals = None, "", Refusals()
         self.path, self.place = path, kept_before.get("place")
 
     def look(self, merchant):
@@ -209,9 +233,7 @@ class Ledger:
             with open(self.path, "rb"):
                 self.log = self.log or Log(self.path, self.place)
             for line in self.log.new():
-                told = request(line) if b'"asked":"detokenize"' in line else None
-                if told and told["asked"] == "detokenize" and told["merchant"] in self.accounts:
-                    self.accounts[told["merchant"]].line(told)
+                self.take(line)
             fault, self.read = "", begun
         except UNREADABLE as error:
             fault = f"{self.path}: {error.strerror or error}" if isinstance(error, OSError) else f"{error}"
@@ -219,6 +241,15 @@ class Ledger:
             print(fault, file=sys.stderr, flush=True)
         self.fault = fault
         self.write()
+
+    def take(self, line):
+        """A line that is new."""
+        told = request(line)
+        if not told:
+            return
+        self.refusals.line(told)
+        if told["asked"] == "detokenize" and told["merchant"] in self.accounts:
+            self.accounts[told["merchant"]].line(told)
 
     def write(self):
         """Writes the ledger now and then, in place of the one before."""

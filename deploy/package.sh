@@ -25,7 +25,7 @@ place 755 "$program" /usr/bin/vault
 strip --strip-all "$root/usr/bin/vault"
 mkdir -p "$root/lib/systemd/system"
 sh "$here/units.sh" "$root/lib/systemd/system"
-for step in pause check-lists check-port jumped room port port-holders listens answers watch thaw alarm \
+for step in pause check-lists list-faults check-port jumped room port port-holders listens answers watch thaw alarm \
     counted moments newest backup-now backup.sh restore.sh again.sh exporter.py; do
     place 755 "$here/$step" "/usr/lib/vault/$step"
 done

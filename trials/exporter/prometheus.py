@@ -29,6 +29,8 @@ CALM = {
     'vault_ends_seconds{kind="front",name="front"}': 100,
     'vault_numbers_unlogged{merchant="shop1"}': 2,
     "vault_log_known": 1,
+    'vault_caller_refused{caller="till-1",status="409"}': 3,
+    'vault_caller_refused{caller="till-1",status="429"}': 20,
     'haproxy_backend_current_queue{proxy="vault"}': 3,
     'haproxy_frontend_requests_denied_total{proxy="callers"}': 5,
 }
@@ -54,6 +56,8 @@ BAD = {
     'vault_unwatched{merchant="shop3"}': 1,
     'vault_numbers_unlogged{merchant="shop1"}': 9,
     "vault_log_known": 0,
+    'vault_caller_refused{caller="till-1",status="409"}': 300,
+    'vault_caller_refused{caller="till-1",status="429"}': 2000,
     'haproxy_backend_current_queue{proxy="vault"}': 500,
     'haproxy_frontend_requests_denied_total{proxy="callers"}': 5000,
 }

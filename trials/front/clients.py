@@ -57,8 +57,8 @@ class Client:
             self.connection = None
             raise
 
-    def token(self, merchant, request, **fields):
-        """Asks for a token of one card number."""
-        body = json.dumps({"number": NUMBER, "use": "single"})
+    def token(self, merchant, request, number=NUMBER, **fields):
+        """Asks for a token of a card number."""
+        body = json.dumps({"number": number, "use": "single"})
         fields["X-Vault-Request"] = str(request)
         return self.ask("POST", f"/v1/merchants/{merchant}/tokens", body, **fields)

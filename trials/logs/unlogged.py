@@ -19,6 +19,7 @@ from shared.runs import until
 from shared.tally import unlike
 
 NUMBERS = "/v1/merchants/shop1/tokens/{}/number"
+OTHERS = ("4012888888881881", "5555555555554444", "378282246310005")
 SETTINGS = """front = "https://localhost:{front}"
 certificate = "back.pem"
 key = "back.key"
@@ -48,14 +49,14 @@ class Exporter:
         self.process.kill()
         self.process.wait()
 
-    def value(self, name):
-        """A value of the one merchant, or one without a merchant."""
+    def value(self, name, labels='merchant="shop1"'):
+        """A value with these labels, or one without a label."""
         try:
             with urllib.request.urlopen(f"http://127.0.0.1:{self.port}/metrics", timeout=10) as answer:
                 told = answer.read().decode()
         except OSError:
             return None
-        found = re.search(rf'(?m)^vault_{name}(?:\{{merchant="shop1"\}})? ([0-9.]+)$', told)
+        found = re.search(rf'(?m)^vault_{name}(?:\{{{labels}\}})? ([0-9.]+)$', told)
         return found and int(float(found[1]))
 
 
@@ -171,6 +172,19 @@ def full(shop, volume, repository):
     shop.judge("and none once it has room", True)
 
 
+def guessed(shop):
+    """Somebody who sends a used request number with other card numbers: the exporter says how often, and who."""
+    labels = 'caller="till-1",status="409"'
+    before = shop.exporter.value("caller_refused", labels) or 0
+    till = Client(shop.front.port, "till-1")
+    statuses = [till.token("shop1", 1, number).status for number in OTHERS]
+    shop.tally.judge(f"{shop.name}: a used number with others", unlike(statuses, [409] * len(OTHERS)))
+    wanted = before + len(OTHERS)
+    until(lambda: shop.exporter.value("caller_refused", labels) == wanted, 20)
+    seen = shop.exporter.value("caller_refused", labels)
+    shop.tally.judge(f"{shop.name}: the exporter says who guesses", unlike(seen, wanted))
+
+
 def hung_up(shop, vault):
     """A client that hangs up while the vault works: its number may have gone out, and the log has its line."""
     os.kill(vault.process.pid, signal.SIGSTOP)
@@ -228,6 +242,7 @@ def judge(tally, python, repository, vault, fronts, token):
             shop = Shop(tally, name, front(), start, token)
             try:
                 full(shop, volume, repository)
+                guessed(shop)
                 hung_up(shop, vault)
                 if syslog:
                     syslog = without_syslog(shop, repository, syslog)

@@ -113,6 +113,27 @@ def looked(tally, machine):
 vault-look merchants later.toml
 """
     says(tally, machine, "what a list of merchants would set", grown, "^merchant shop1 single 60 multi")
+    wrong = """printf '[till-1]\\nshop1 = ["tokenise"]\\n# end\\n' > /srv/wrong.toml
+vault-look rights /srv/wrong.toml 2>&1
+"""
+    named = r"^refused 71\nline 2: tokenise is no right$"
+    says(tally, machine, "which line has a word that is no right", wrong, named, well=False)
+    refused = """cp /etc/vault/rights.toml /srv/kept.toml; systemctl stop vault; cp /srv/wrong.toml /etc/vault/rights.toml
+timeout 20 systemctl start vault; journalctl -u vault -o cat --no-pager | tail -n 30
+systemctl stop vault; systemctl reset-failed vault; install -m 644 /srv/kept.toml /etc/vault/rights.toml
+systemctl start vault
+"""
+    named = r"^RIGHTS, line 2: tokenise is no right\n[\s\S]*^refused 71$"
+    says(tally, machine, "a start that is refused says it too", refused, named, well=False)
+    says(tally, machine, "and goes on with the list mended", "systemctl is-active vault", "^active$")
+    gone = """sed -i 's#rights.toml#none.toml#' /etc/systemd/system/vault.service.d/lists.conf; systemctl daemon-reload
+systemctl stop vault; timeout 20 systemctl start vault; journalctl -u vault -o cat --no-pager | tail -n 30
+systemctl stop vault; systemctl reset-failed vault
+sed -i 's#none.toml#rights.toml#' /etc/systemd/system/vault.service.d/lists.conf; systemctl daemon-reload
+systemctl start vault
+"""
+    named = r"^vault: stopped 80\nvault: RIGHTS can't be read$"
+    says(tally, machine, "a list that isn't there is named", gone, named, well=False)
 
 
 def logs(tally, machine):
