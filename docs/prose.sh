@@ -9,7 +9,7 @@ limits='bench/README.md 1500
 bench/RUNS.md 2500
 docs/ARCHITECTURE.md 1200
 docs/CONTRIBUTING.md 1250
-docs/DECISIONS.md 2600
+docs/DECISIONS.md 2700
 docs/LIMITS.md 1500
 docs/MODEL.md 1500
 docs/PROVED.md 1200
