@@ -6,7 +6,7 @@ ghost use Rattle.sqlite.specs.View.{IsClean};
 ghost use Rattle.sqlite_store.specs.FileStore.{view};
 ghost use Rattle.vault_core.specs.Sound.{Sound};
 ghost use Rattle.vault_core.specs.Vault.{Vault as Content, empty_vault};
-ghost use Rattle.vault_file.specs.Faults.{};
+ghost use Rattle.vault_file.specs.Faults.{IfRefused, IsRefusal};
 ghost use Rattle.vault_file.specs.Found.{ChecksAs, HoldsSuch, IsNoPath, IsVaultOf, LeavesFrom, LeavesWhole};
 ghost use Rattle.vault_file.specs.Found.{RefusesRightly, Stays, StaysWhole};
 ghost use Rattle.vault_file.specs.Paths.{Each};

@@ -1,6 +1,6 @@
 //! The file at a path moves to the newest schema.
 ghost use Rattle.std.specs.Prelude.{◌≡◌, ◌↔◌, None, IfOk, IfErr, IsErrAnd};
-ghost use Rattle.vault_file.specs.Faults.{};
+ghost use Rattle.vault_file.specs.Faults.{IfRefused, IsRefusal};
 ghost use Rattle.vault_file.specs.Found.{IsNoPath};
 ghost use Rattle.vault_file.specs.Moved.{LeavesUnmoved, MovesAs, MovesFrom, RefusesMove, StaysUnmoved};
 ghost use Rattle.vault_file.specs.Paths.{Each};
