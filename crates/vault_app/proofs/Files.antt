@@ -39,7 +39,8 @@ use Rattle.vault_app.specs.World.{World, outside_in}
 use Rattle.vault_app.specs.Jobs.{IsChecked, IsMoved}
 use Rattle.vault_app.specs.declared.ending.Ending.TheVariants.{NotOpened}
 use Rattle.vault_engine.specs.Passing.{vault_passing}
-use Rattle.vault_file.specs.Refused.{IfRefused, IsRefusal, IsRefusedBy, WhereDone, WhereLeft, WhereShut}
+use Rattle.vault_file.specs.Faults.{IfRefused, IsRefusal, IsRefusedBy}
+use Rattle.vault_file.specs.Refused.{WhereDone, WhereLeft, WhereShut}
 use Rattle.vault_recover.specs.declared.unopened.Unopened.{Unopened}
 use Rattle.vault_store.specs.Applied.{is_broken}
 

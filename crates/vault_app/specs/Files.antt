@@ -13,7 +13,7 @@ use Rattle.vault_recover.specs.Crashed.{Reopens, ReopensEither}
 use Rattle.vault_schema.specs.Holds.{Holds}
 use Rattle.vault_file.specs.Found.{MayFindNone, OpensFrom, RefusesRightly, Stays, StaysWhole}
 use Rattle.vault_file.specs.Paths.{Each}
-use Rattle.vault_file.specs.Refused.{IsRefusedBy}
+use Rattle.vault_file.specs.Faults.{IsRefusedBy}
 use Rattle.vault_recover.specs.declared.unopened.Unopened.TheVariants.{Missing}
 use Rattle.vault_file.specs.declared.fault.NotOpened.{NotOpened as FileFault}
 use Rattle.vault_file.specs.declared.fault.NotOpened.TheVariants as file

@@ -9,7 +9,7 @@ use Rattle.sqlite_store.specs.declared.store.FileStore.{FileStore}
 use Rattle.vault_core.specs.Vault.{empty_vault}
 use Rattle.vault_file.specs.Found.{ChecksAs, RefusesRightly, Stays, StaysWhole}
 use Rattle.vault_file.specs.Paths.{Each}
-use Rattle.vault_file.specs.Refused.{IsRefusedBy}
+use Rattle.vault_file.specs.Faults.{IsRefusedBy}
 use Rattle.vault_file.specs.Moved.{MovesAs, StaysUnmoved}
 use Rattle.vault_verdict.specs.declared.fault.OpenFault.TheVariants.{Memory}
 use Rattle.vault_file.specs.declared.fault.NotOpened.{NotOpened as FileFault}

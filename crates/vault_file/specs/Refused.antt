@@ -8,23 +8,7 @@ use Rattle.sqlite_store.specs.declared.store.FileStore.{FileStore}
 use Rattle.sqlite_wal.specs.Recovery.{Image}
 use Rattle.vault_file.specs.Paths.{Each}
 use Rattle.vault_file.specs.declared.fault.NotOpened.{NotOpened}
-use Rattle.vault_file.specs.declared.fault.NotOpened.TheVariants.{Refused, Fault}
-use Rattle.vault_recover.specs.declared.unopened.Unopened.{Unopened}
-
--- it is 34
-abbrev pub IsRefusal : NotOpened → Type 0
-IsRefusal (Refused cause) = Unit {0}
-IsRefusal (Fault fault) = ⊥
-
--- with 34, this is so of the cause
-abbrev pub IfRefused : NotOpened → (Unopened → Type 0) → Type 0
-IfRefused (Refused cause) Is = Is cause
-IfRefused (Fault fault) Is = Unit {0}
-
--- it is 34 for a cause of which this is so
-abbrev pub IsRefusedBy : (Unopened → Type 0) → NotOpened → Type 0
-IsRefusedBy Is (Refused cause) = Is cause
-IsRefusedBy Is (Fault fault) = ⊥
+use Rattle.vault_file.specs.Faults.{IsRefusal}
 
 -- it is refused by 34
 abbrev pub IsRefused : {X Y : Type 0} → Result X (NotOpened × Option Y) → Type 0

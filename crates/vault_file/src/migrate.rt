@@ -1,9 +1,10 @@
 //! The file at a path moves to the newest schema.
 ghost use Rattle.std.specs.Prelude.{◌≡◌, ◌↔◌, None, IfOk, IfErr, IsErrAnd};
+ghost use Rattle.vault_file.specs.Faults.{IfRefused, IsRefusal};
 ghost use Rattle.vault_file.specs.Found.{IsNoPath};
 ghost use Rattle.vault_file.specs.Moved.{LeavesUnmoved, MovesAs, MovesFrom, RefusesMove, StaysUnmoved};
 ghost use Rattle.vault_file.specs.Paths.{Each};
-ghost use Rattle.vault_file.specs.Refused.{GivesBack, IfRefused, IsRefusal, IsRefused, TellsWhereRefused, WhereDone, WhereLeft};
+ghost use Rattle.vault_file.specs.Refused.{GivesBack, IsRefused, TellsWhereRefused, WhereDone, WhereLeft};
 ghost use Rattle.vault_file.specs.Refused.{WhereRefused};
 ghost use Rattle.vault_schema.specs.Versions.{newest, number_of};
 
