@@ -34,7 +34,7 @@ class Scan:
     def __init__(self, port):
         self.port, self.process = port, None
         words = ("--quiet", "--color", "0", "--warnings", "off", "--ip", "127.0.0.1", "-n", "none", "--fast")
-        words += ("--add-ca", "callers.pem", "--openssl-timeout", "5", "--severity", "LOW")
+        words += ("--add-ca", "callers.pem", "--openssl-timeout", "60", "--severity", "LOW")
         if is_there("testssl"):
             self.process = subprocess.Popen(
                 ["testssl", *words, "--jsonfile", "found.json", *ATTACKS, f"localhost:{port}"],
