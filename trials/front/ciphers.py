@@ -1,5 +1,5 @@
-"""What two scanners of TLS find at a front: sslscan its versions and ciphers, testssl its defaults and what it may
-be attacked by. Each is left out, with a line that says so, if it isn't there."""
+"""What two scanners of TLS find at a front: sslscan its versions and ciphers, testssl its defaults and what it
+may be attacked by. Each is left out, with a line that says so, if it isn't there."""
 
 import json
 import re
@@ -12,9 +12,10 @@ STRONG = re.compile(
     r"TLSv1\.3 +[0-9]+ bits +TLS_(AES_256_GCM_SHA384|CHACHA20_POLY1305_SHA256|AES_128_GCM_SHA256)\b"
     r"|TLSv1\.2 +[0-9]+ bits +ECDHE-(ECDSA|RSA)-(AES(128|256)-GCM-SHA(256|384)|CHACHA20-POLY1305)\b"
 )
-# its defaults, and what may be wrong beside what sslscan sees: CCS, Ticketbleed, renegotiation, compressed bodies
+# its defaults, and what may be wrong beside what sslscan sees: CCS, Ticketbleed, renegotiation, and bodies that
+# are compressed
 ATTACKS = ("-S", "-I", "-T", "-R", "-B")
-# the trial's authority is a file: it says nowhere on the net whose certificates it took back, and no record of a
+# the trial's authority is a file: it publishes no list of revoked certificates on the net, and no record of a
 # domain names it
 NOT_OF_A_FRONT = {"cert_revocation", "DNS_CAArecord"}
 
@@ -33,7 +34,7 @@ class Scan:
     def __init__(self, port):
         self.port, self.process = port, None
         words = ("--quiet", "--color", "0", "--warnings", "off", "--ip", "127.0.0.1", "-n", "none", "--fast")
-        words += ("--add-ca", "callers.pem", "--openssl-timeout", "5", "--severity", "LOW")
+        words += ("--add-ca", "callers.pem", "--openssl-timeout", "60", "--severity", "LOW")
         if is_there("testssl"):
             self.process = subprocess.Popen(
                 ["testssl", *words, "--jsonfile", "found.json", *ATTACKS, f"localhost:{port}"],

@@ -17,7 +17,7 @@ from shared.runs import until
 
 MANY = 5000
 AT_ONCE = 8
-# whoever holds them has an address of its own, or sits in a shop that the front knows, or in one that it doesn't
+# whoever holds them has an address of its own, or sits in a shop that the front knows or in another one
 HOLDER = "127.0.0.2"
 SHOP = "127.0.0.3"
 CROWDED = "127.0.0.4"
@@ -47,7 +47,7 @@ def context_of(caller):
 
 class Held:
     """As many connections of a kind as the front takes, over which nothing is read; those that drip have a byte
-    more each second, and those of which nothing is sent don't begin TLS. They are closed at the end of a `with`."""
+    more each second, and those with nothing to send don't begin TLS. They are closed at the end of a `with`."""
 
     def __init__(self, port, caller, sent, drips=False, address=HOLDER, many=MANY):
         self.port, self.sent, self.drips, self.address, self.many = port, sent, drips, address, many
@@ -120,7 +120,8 @@ def judge(tally, port, hanging, sides):
     # those that say nothing end by themselves, so nobody waits for that
     judge_kind(tally, port, "that say nothing", Held(port, None, None), seconds=3)
     for place, side in enumerate(sides):
-        judge_kind(tally, port, f"to its side {place + 1} that say nothing", Held(side, None, None), seconds=3)
+        name = f"to its side {place + 1} that say nothing"
+        judge_kind(tally, port, name, Held(side, None, None), seconds=3)
     within = Held(port, None, None, address=SHOP)
     judge_kind(tally, port, "in a shop that say nothing", within, SHOP, 3)
     tills = Held(port, "guest", b"", address=CROWDED, many=TILLS)
@@ -128,7 +129,7 @@ def judge(tally, port, hanging, sides):
 
 
 def judge_kind(tally, port, name, held, address=None, seconds=20):
-    """One kind, and another caller at an address of its own or at theirs: it has its answers within so long."""
+    """One kind, and another caller at an address of its own or at theirs: it is answered within so long."""
     told = []
 
     def all_in_time():

@@ -1,5 +1,5 @@
-"""What a caller is stopped at: guesses over a request number that was used, more tokens in a day than its class
-has, and more card numbers. Others go on beside it."""
+"""What a caller is stopped at: guesses over a request number that was used, more tokens in a day than its
+class has, and more card numbers. Others go on beside it."""
 
 import json
 import time
@@ -106,12 +106,13 @@ def spelled():
     def sent(*fields, target=TOKENS, method="POST"):
         return message(f"{method} {target} HTTP/1.1", *fields, body=body)
 
-    for words in ("9", "\t9", " \t 9", "9\t", "9 \t ", "\t\t9\t\t", "\r\n 9", "9\r\n\t", "09", "+9", "9.0", "9,"):
+    for words in ("9", "\t9", " \t 9", "9\t", "9 \t ", "\t\t9\t\t", "\r\n 9", "9\r\n\t", "09", "+9", "9.0"):
         yield repr(words), sent(f"{name}: {words}")
-    for words in ("9;x", "9 9", "9, 9", ",9", '"9"', "0x9", "9e0", "\x0b9", "9\x0c", "\u00a09", "9\0", "9%20"):
+    for words in ("9,", "9;x", "9 9", "9, 9", ",9", '"9"', "0x9", "9e0", "\x0b9", "9\x0c", "\u00a09", "9%20"):
         yield repr(words), sent(f"{name}: {words}")
     for other in (name.lower(), name.upper(), "X_Vault_Request", "X-Vault_Request", f"{name} ", f" {name}"):
         yield other, sent(f"{other}: 9")
+    yield "a NUL behind it", sent(f"{name}: 9\0")
     for words in (("9", "9"), ("", "9"), ("10", "9"), ("9", "10"), ("x", "9"), ("9", "")):
         yield f"{words}", sent(*(f"{name}: {it}" for it in words))
     yield "no field", sent()
@@ -132,8 +133,8 @@ def spelled():
 
 
 def many(port, caller, ask, count):
-    """What a caller is answered who asks so often, by several clients at once. A limit of seconds is waited for,
-    and no limit of a day."""
+    """What a caller is answered who asks so often, by several clients at once. It waits for a limit of seconds,
+    and for no limit of a day."""
     told, left = [], iter(range(1, count + 1))
 
     def one():

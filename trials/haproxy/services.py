@@ -36,8 +36,8 @@ def route(merchant, backend):
 def classes():
     """The pairs by which the file says what callers are: its own example has one caller of each class."""
     for name, callers in CLASSES.items():
-        example = re.compile(rf"(?m)^    # (http-request .*str\({name}\) if {{ var\(txn.caller\) -m str) .* }}$")
-        yield example, rf"    \1 {' '.join(callers)} }}"
+        line = rf"(http-request .*str\({name}\) if {{ var\(txn.caller\) -m str) .* }}"
+        yield re.compile(rf"(?m)^    # {line}$"), rf"    \1 {' '.join(callers)} }}"
 
 
 def routes(vaults):
