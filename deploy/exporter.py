@@ -195,7 +195,7 @@ class Unlogged:
 
     def collect(self):
         """How many numbers no line tells of, and whether the log can be read."""
-        unlogged = gauge("vault_numbers_unlogged", "Card numbers that no line of the log tells of.", "merchant")
+        unlogged = gauge("vault_numbers_unlogged", "Card numbers that the log lacks.", "merchant")
         seen = gauge("vault_log_known", "Whether the front's log can be read.")
         if not self.ledger:
             return []

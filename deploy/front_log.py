@@ -47,8 +47,8 @@ def lines(file):
 
 
 def request(line):
-    """What a line says, or None of one that isn't the log's. On a full disk a part of a line may stand before a
-    whole one."""
+    """What a line says, or None of one that isn't the log's. On a full disk a part of a line may stand before
+    a whole one."""
     try:
         told = json.loads(line[max(0, line.rfind(b'{"time":')) :])
     except (ValueError, RecursionError):
@@ -58,8 +58,8 @@ def request(line):
 
 
 def went_out(told):
-    """How a request for a card number ended: 1 if the number went out, 0 if not, None if it may have. Then the
-    client hung up (nginx: 499; HAProxy: -1, or a 400 of its own), or the vault's answer was lost."""
+    """How a request for a card number ended: 1 if the number went out, 0 if not, None if it may have. Then
+    the client hung up (nginx: 499; HAProxy: -1, or a 400 of its own), or the vault's answer was lost."""
     if told["status"] == 200:
         return 1
     hung_up = told["status"] == 400 and told.get("refused") == "front 400"
@@ -176,6 +176,9 @@ class Account:
                 self.explained += 1
                 excess -= 1
             self.unlogged += max(0, excess)
+            # lines of numbers that were never given hide no number of later
+            if excess < 0 and given == self.given and time.time() - self.since > DOUBT + settle:
+                self.base += excess
 
 
 class Refusals:

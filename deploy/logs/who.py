@@ -10,15 +10,15 @@ last four digits tell), and its first and last time. `--each` prints each reques
 that refused it, its request number and its reference, as far as there are. `--request N` takes those of one
 request number alone, of which a log has the first six digits and the last four. N of `--days` is 7, counted back
 from now or from the end of DAY, as 2026-11-27, in UTC. WORD is `detokenize`, or another that the log has:
-`tokenize`, `view`, `revoke`, `purge`, `audit`. A line that isn't the log's is counted on standard error, and what
-can't be printed is escaped. The exit status is 1 if a file can't be read whole.
+`tokenize`, `view`, `revoke`, `purge`, `audit`. A line that isn't the log's is counted on standard error, and
+what can't be printed is escaped. The exit status is 1 if a file can't be read whole.
 
 `--reconcile` compares how many numbers the vault gave with how many lines tell of one. The exporter notes in
 FILE, its `ledger.json`, twice a day what each vault had given. Between two such times `unlogged` are numbers
-that no line tells of: one that went out while the log was full, or past the front, or one whose answer was lost
-and that the front asked for again. `perhaps` are requests whose client hung up or whose answer was lost, so each
-may have brought a number back. `uncounted` are lines of numbers that the vault didn't give. The exit status is 1
-if there are any unlogged or uncounted.
+that no line tells of: one that went out while the log was full, or past the front, or one whose answer was
+lost and that the front asked for again. `perhaps` are requests whose client hung up or whose answer was lost, so
+each may have brought a number back. `uncounted` are lines of numbers that the vault didn't give. The exit status
+is 1 if there are any unlogged or uncounted.
 """
 
 import argparse
@@ -144,7 +144,8 @@ def reconcile(arguments, since):
         if not of_one:
             print(f"{name:16} the ledger has no two times of it yet")
         whole = [marks[name][0][0], marks[name][-1][0], *map(sum, zip(*of_one))] if of_one else []
-        parts = [(before[0], after[0], *row) for before, after, row in zip(marks[name], marks[name][1:], of_one)]
+        between = zip(marks[name], marks[name][1:], of_one)
+        parts = [(before[0], after[0], *row) for before, after, row in between]
         missing = [max(0, given - out - perhaps) for _, _, given, out, perhaps in parts]
         extra = [max(0, out - given) for _, _, given, out, perhaps in parts]
         wrong += sum(missing) + sum(extra)

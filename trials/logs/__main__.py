@@ -15,7 +15,7 @@ from front.clients import NUMBER, Client
 from front.services import Front as Nginx
 from front.services import REST, two_vaults
 from haproxy.services import Front
-from logs import forged_lines, odd_lines, refusals, taken, unlogged
+from logs import accounts, forged_lines, odd_lines, refusals, taken, unlogged
 from logs.turned import Syslog, configured, turn
 from shared import lines
 from shared.runs import until
@@ -182,6 +182,7 @@ def without_numbers(tally):
 def main(program, repository, python):
     tally = Tally()
     odd_lines.judge(tally, repository)
+    accounts.judge(tally, repository)
     forged_lines.carried_out(tally, repository)
     certificates.make()
     configured(repository)

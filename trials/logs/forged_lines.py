@@ -88,7 +88,8 @@ def carried_out(tally, repository):
         status, told = again(repository, vault, *words, typed=typed)
         tally.judge(f"again.sh: {name}", unlike((status, vault.asked), (ended, wanted)))
         tally.judge(f"again.sh: it says what first, {name}", "" if says in told else told[-300:])
-    tally.judge("again.sh: forged lines are counted", "" if f"refused {len(FORGED)}\n" in told else told[-300:])
+    is_counted = f"refused {len(FORGED)}\n" in told
+    tally.judge("again.sh: forged lines are counted", "" if is_counted else told[-300:])
     vault.status, vault.body = 500, b"\x1b]0;pwn\x07 no" + b"x" * 1000000
     told = again(repository, vault, "--yes")[1]
     signs = [it for it in told if not (" " <= it <= "~" or it == "\n")]

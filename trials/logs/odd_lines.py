@@ -1,4 +1,4 @@
-"""Lines in the log that no front writes, and files that are torn: who.py counts them, and tells of the rest."""
+"""Lines in the log that no front writes, and torn files: who.py counts them, and tells of the rest."""
 
 import gzip
 import json
@@ -46,7 +46,7 @@ def who(repository, *words):
 
 
 def judge(tally, repository):
-    """Each odd line between two that are sound; signs that can't be printed; a torn file beside a whole one."""
+    """Each odd line between two that are sound; signs that can't be printed; a torn file and a torn line."""
     os.mkdir("odd")
     for name, odd in ODD.items():
         with open("odd/front.log", "wb") as file:

@@ -81,8 +81,8 @@ class Volume:
             os.remove(log)
 
     def fill(self):
-        """Takes all of its room. The page of the log's last line has some still, so it waits until the exporter's
-        own requests filled that."""
+        """Takes all of its room. The page of the log's last line has some still, so it waits until the
+        exporter's own requests filled that."""
         with open("full/filler", "wb", buffering=0) as file, contextlib.suppress(OSError):
             while file.write(b"x" * 4096):
                 pass
