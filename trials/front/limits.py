@@ -160,6 +160,9 @@ def filled(tally, port, kind):
     tally.judge("another till goes on", unlike(asked(Client(port, SEEKERS[2]), 77).status, 200))
     told = many(port, "batch-1", asked, TILL + 100)
     tally.judge("a batch has more", unlike(set(told), {(403, None)}))
+    # one may be let through for each minute that all this took
+    statuses = [asked(Client(port, SEEKERS[2]), USED).status for _ in range(20)]
+    tally.judge("and others' request numbers make nobody's forgotten", unlike(statuses[-5:], [429] * 5))
 
 
 def settled(tally, port):
