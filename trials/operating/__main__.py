@@ -239,7 +239,7 @@ systemctl is-active vault; [ $(systemctl show -p MainPID --value vault) != $befo
 
 def under_load(tally, machine, page):
     """The block of the copy once more, while a till asks: nobody is refused, and nothing lost."""
-    again = """printf '[till-1]\\nshop1 = ["tokenize"]\\n' >> /etc/vault/rights.toml
+    again = """sed -i '/^# end/i [till-1]\\nshop1 = ["tokenize"]' /etc/vault/rights.toml
 rm /var/backups/vault/*; systemctl reset-failed vault; systemctl restart vault
 """
     says(tally, machine, "the till has its right again", again, "")
