@@ -45,7 +45,7 @@ no_verdict Memory neither = (λ same. omega (arith, same), λ same. omega (arith
 no_verdict Store neither = (λ same. omega (arith, same), λ same. omega (arith, same))
 
 fault_in : NotOpened → OpenFault
-fault_in Refused = Memory
+fault_in (Refused cause) = Memory
 fault_in (Fault fault) = fault
 
 pub same_fault : (e f : OpenFault) → Fault e ≡ Fault f → e ≡ f
