@@ -33,10 +33,6 @@ use Rattle.vault_schema.specs.Holds.{Holds, HoldsIn}
 use Rattle.sql_tables.specs.Schema.{no_schema}
 use Rattle.vault_schema.specs.Stands.{Stands}
 
--- what is there isn't missing
-pub there : {X : Type 0} (x : X) → Some x ≡ None → ⊥
-there x same = let clash = same in cc
-
 -- a refusal that is neither 30 nor 31
 pub no_verdict : (e : OpenFault) → IsNoRefusal e → IsNoVerdict (Fault e)
 no_verdict (WrongSchema version) neither = absurd (neither.0 version refl)

@@ -63,3 +63,9 @@ returns-in-Err-check-clause-left g c image holds =
     c.in-Ok.ensures.unlimited c.settled.ensures c.check.ensures.nothing_new c.check.ensures.untouched
     (c.in-Ok.ensures.again image holds) (c.in-Ok.ensures.either image holds)
     (c.in-Ok.ensures.first image holds)
+
+pub returns-in-Ok-check-clause-no_path : goal.returns-in-Ok-check-clause-no_path
+returns-in-Ok-check-clause-no_path g c none = absurd (c.in-Ok.ensures.no_path none)
+
+pub returns-in-Err-check-clause-no_path : goal.returns-in-Err-check-clause-no_path
+returns-in-Err-check-clause-no_path g c none = absurd (c.in-Ok.ensures.no_path none)

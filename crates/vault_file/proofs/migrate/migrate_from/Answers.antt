@@ -52,3 +52,9 @@ returns-in-Err-migrate_all-clause-left g c image holds =
           (none_older image first opened none (omega (arith, c.migrate_all.ensures.migrates.clean, clean)))
           (some_there image first opened some (omega (arith, c.migrate_all.ensures.migrates.clean, clean))));
     }
+
+pub returns-in-Ok-migrate_all-clause-no_path : goal.returns-in-Ok-migrate_all-clause-no_path
+returns-in-Ok-migrate_all-clause-no_path g c none = absurd (c.in-Ok.ensures.no_path none)
+
+pub returns-in-Err-migrate_all-clause-no_path : goal.returns-in-Err-migrate_all-clause-no_path
+returns-in-Err-migrate_all-clause-no_path g c none = absurd (c.in-Ok.ensures.no_path none)

@@ -1,7 +1,7 @@
 use Rattle.std.proofs.Common.{arith}
 use Rattle.sqlite.specs.Files.{file_state}
 use Rattle.vault_file.proofs.Leaving.{leaves_from, older_left}
-use Rattle.vault_file.proofs.Opening.{opens_from, spares, tells_found, there}
+use Rattle.vault_file.proofs.Opening.{opens_from, spares, tells_found}
 use Rattle.vault_file.proofs.Whole.{leaves_whole, opened_less, some_there}
 use Rattle.vault_file.proofs.open.open_from.Goals as goal
 use Rattle.vault_store.specs.Applied.{tables_of}
@@ -14,10 +14,10 @@ returns-in-Ok-open-clause-found g c image holds =
     c.in-Ok-open.ensures.opens.clean
 
 pub returns-in-Ok-open-clause-no_path : goal.returns-in-Ok-open-clause-no_path
-returns-in-Ok-open-clause-no_path g c none = there c.in-Ok.conn (c.in-Ok.ensures.no_path none)
+returns-in-Ok-open-clause-no_path g c none = absurd (c.in-Ok.ensures.no_path none)
 
 pub returns-in-Err-open-clause-no_path : goal.returns-in-Err-open-clause-no_path
-returns-in-Err-open-clause-no_path g c none = absurd (there c.in-Ok.conn (c.in-Ok.ensures.no_path none))
+returns-in-Err-open-clause-no_path g c none = absurd (c.in-Ok.ensures.no_path none)
 
 pub returns-in-Err-open-clause-rightly : goal.returns-in-Err-open-clause-rightly
 returns-in-Err-open-clause-rightly g c image holds clean =
