@@ -1,5 +1,5 @@
 -- What an open and a check come to.
-use Rattle.std.proofs.Common.{◌≡◌, inl, inr, ◌≤◌, ℕ, ℤ, Some, None, arith, refl, sym, ap, subst, ◌∙◌}
+use Rattle.std.proofs.Common.{◌≡◌, inl, inr, ◌≤◌, ℕ, ℤ, None, arith, refl, sym, ap, subst, ◌∙◌}
 use Rattle.std.proofs.Math.Logic.{∥∥₁_elim, ∥∥₁_map}
 use Rattle.sqlite.specs.Effect.{Database, IsDatabase}
 use Rattle.sqlite.specs.Files.{AreFoundIn, file_state}
@@ -33,10 +33,6 @@ use Rattle.vault_schema.specs.Holds.{Holds, HoldsIn}
 use Rattle.sql_tables.specs.Schema.{no_schema}
 use Rattle.vault_schema.specs.Stands.{Stands}
 
--- what is there isn't missing
-pub there : {X : Type 0} (x : X) → Some x ≡ None → ⊥
-there x same = let clash = same in cc
-
 -- a refusal that is neither 30 nor 31
 pub no_verdict : (e : OpenFault) → IsNoRefusal e → IsNoVerdict (Fault e)
 no_verdict (WrongSchema version) neither = absurd (neither.0 version refl)
@@ -45,7 +41,7 @@ no_verdict Memory neither = (λ same. omega (arith, same), λ same. omega (arith
 no_verdict Store neither = (λ same. omega (arith, same), λ same. omega (arith, same))
 
 fault_in : NotOpened → OpenFault
-fault_in Refused = Memory
+fault_in (Refused cause) = Memory
 fault_in (Fault fault) = fault
 
 pub same_fault : (e f : OpenFault) → Fault e ≡ Fault f → e ≡ f

@@ -29,7 +29,6 @@ use vault_verdict::sizes::Sizes;
 /// `open_from` makes it, and is the empty vault.
 ///
 /// Refused by 30 to 34 as `open_from` refuses.
-#[tactic(auto, using(crate::proofs::Opening::there))]
 pub fn check_from<P: Paths>(rt: &HostRuntime, path: &str, paths: P) -> Connected<P, Sizes>
     // words that name no file are refused by 34
     ensures no_path { IsNoPath path.now → IsRefused result }

@@ -19,7 +19,6 @@ use vault_recover::options::Cache;
 /// `open_from` makes it, and gets the tables of the empty vault.
 ///
 /// Refused by 30 to 33 as `vault_migrate::migrate_all` refuses, by 34 as `open_from` refuses.
-#[tactic(auto, using(crate::proofs::Opening::there))]
 pub fn migrate_from<P: Paths>(rt: &HostRuntime, path: &str, paths: P) -> Connected<P, i64>
     // words that name no file are refused by 34
     ensures no_path { IsNoPath path.now → IsRefused result }

@@ -39,7 +39,7 @@ use Rattle.vault_jobs.specs.Outside.{Outside}
 use Rattle.vault_jobs.specs.Streams.{Known, Streams, output_with, seen_as}
 use Rattle.vault_changes.specs.Carried.{Verdict}
 use Rattle.vault_jobs.specs.declared.stop.Stop.{Stop}
-use Rattle.vault_jobs.specs.declared.stop.Stop.TheVariants.{Vault, Service, Listener, Rights}
+use Rattle.vault_jobs.specs.declared.stop.Stop.TheVariants.{Vault, Service, Listener, Unread}
 use Rattle.vault_jobs.specs.declared.stop.Stop.TheVariants as stop
 use Rattle.vault_jobs.specs.declared.task.Outcome.{Outcome}
 
@@ -50,7 +50,7 @@ module _ (unsent : Type 0) (old new : Known) (s : Streams) where
   commands_caused P line (Err (Vault f)) h = tt
   commands_caused P line (Err (Service f)) h = subst (λ e. IsCause e s.reader s.writer) (sym h.0) h.1
   commands_caused P line (Err (Listener f)) h = absurd h
-  commands_caused P line (Err (Rights f)) h = absurd h
+  commands_caused P line (Err (Unread about f)) h = absurd h
   commands_caused P line (Err (stop.Batch f)) h = absurd h
 
   change_caused : (c : Command) (w : Passage) (r : Result Outcome Stop)
@@ -66,7 +66,7 @@ module _ (unsent : Type 0) (old new : Known) (s : Streams) where
   sweep_caused who now w (Err (Service f)) h =
       subst (λ e. IsCause e s.reader s.writer) (sym h.0) h.1
   sweep_caused who now w (Err (Listener f)) h = absurd h
-  sweep_caused who now w (Err (Rights f)) h = absurd h
+  sweep_caused who now w (Err (Unread about f)) h = absurd h
   sweep_caused who now w (Err (stop.Batch f)) h = absurd h
 
   timed_sweep_caused : (giver : Giver) (who : Asker) (now : ℕ) (w : Passage)
@@ -90,7 +90,7 @@ module _ (unsent : Type 0) (old new : Known) (s : Streams) where
   serve_caused tells asks port most w (Err (Service f)) ts (same, none, inr (is, failed, part)) =
       subst (λ e. IsCause e s.reader s.writer) (sym is) failed
   serve_caused tells asks port most w (Err (Listener f)) ts h = tt
-  serve_caused tells asks port most w (Err (Rights f)) ts h = absurd h
+  serve_caused tells asks port most w (Err (Unread about f)) ts h = absurd h
   serve_caused tells asks port most w (Err (stop.Batch f)) ts h = absurd h
 
   settle_caused : (now : ℕ) (rows : List Row) (w : Passage) (r : Result Outcome Stop)
@@ -112,7 +112,7 @@ module _ (unsent : Type 0) (old new : Known) (s : Streams) where
   show_caused text w (Err (Vault f)) h = tt
   show_caused text w (Err (Service f)) h = subst (λ e. IsCause e s.reader s.writer) (sym h.0) h.1
   show_caused text w (Err (Listener f)) h = absurd h
-  show_caused text w (Err (Rights f)) h = absurd h
+  show_caused text w (Err (Unread about f)) h = absurd h
   show_caused text w (Err (stop.Batch f)) h = absurd h
 
   begin_caused : (lists : Lists) (w : Passage) (r : Result Outcome Stop)
@@ -121,7 +121,7 @@ module _ (unsent : Type 0) (old new : Known) (s : Streams) where
   begin_caused lists w (Err (Vault f)) h = tt
   begin_caused lists w (Err (Service f)) h = absurd h
   begin_caused lists w (Err (Listener f)) h = absurd h
-  begin_caused lists w (Err (Rights f)) h = absurd h
+  begin_caused lists w (Err (Unread about f)) h = absurd h
   begin_caused lists w (Err (stop.Batch f)) h = absurd h
 
   listed_caused : (at : Outside) (port most : ℕ) (lists : Lists) (w : Passage)
@@ -144,7 +144,7 @@ show_breaks text w unsent s (Err (Vault vault.Store)) h store = h.1.0
 show_breaks text w unsent s (Err (Vault vault.Reopen)) h store = absurd h.1
 show_breaks text w unsent s (Err (Service f)) h store = let is = h.0 in absurd (cc (is, store))
 show_breaks text w unsent s (Err (Listener f)) h store = absurd h
-show_breaks text w unsent s (Err (Rights f)) h store = absurd h
+show_breaks text w unsent s (Err (Unread about f)) h store = absurd h
 show_breaks text w unsent s (Err (stop.Batch f)) h store = absurd h
 
 -- there was no turn

@@ -45,7 +45,7 @@ use Rattle.vault_jobs.specs.declared.clock.Giver.{Giver}
 use Rattle.vault_jobs.specs.declared.clock.Giver.TheVariants.{Words, Clock}
 use Rattle.vault_changes.specs.Carried.{Verdict}
 use Rattle.vault_jobs.specs.declared.stop.Stop.{Stop}
-use Rattle.vault_jobs.specs.declared.stop.Stop.TheVariants.{Vault, Service, Listener, Rights}
+use Rattle.vault_jobs.specs.declared.stop.Stop.TheVariants.{Vault, Service, Listener, Unread}
 use Rattle.vault_jobs.specs.declared.stop.Stop.TheVariants as stop
 use Rattle.vault_jobs.specs.declared.task.Outcome.{Outcome}
 use Rattle.vault_jobs.specs.declared.task.Outcome.TheVariants as outcome
@@ -323,7 +323,7 @@ module _ (H : Type 0) (O N : Content → Type 0) (L : Content → Content → Ty
       inl (is, silent, untouched same, none)
   serve_ends tells asks port n (Err (Listener f)) unsent old new writer ts (inr (told, a)) =
       inr (told, leaves tells asks n ts f a)
-  serve_ends tells asks port n (Err (Rights f)) unsent old new writer ts a = a
+  serve_ends tells asks port n (Err (Unread about f)) unsent old new writer ts a = a
   serve_ends tells asks port n (Err (stop.Batch f)) unsent old new writer ts a = a
 
   pub commands_end : (P Q : Result Verdict Fault → Type 0) → ((r : Result Verdict Fault) → P r → Q r)
@@ -338,7 +338,7 @@ module _ (H : Type 0) (O N : Content → Type 0) (L : Content → Content → Ty
   commands_end P Q step line (Err (Service f)) unsent old new writer (is, failed, h, part) =
       (is, failed, step _ h, part)
   commands_end P Q step line (Err (Listener f)) unsent old new writer h = h
-  commands_end P Q step line (Err (Rights f)) unsent old new writer h = h
+  commands_end P Q step line (Err (Unread about f)) unsent old new writer h = h
   commands_end P Q step line (Err (stop.Batch f)) unsent old new writer h = h
 
   fails_to_read : (f : Fault) → FailsToRead w f
@@ -390,7 +390,7 @@ module _ (H : Type 0) (O N : Content → Type 0) (L : Content → Content → Ty
   show_ends text (Err (Service f)) unsent old new writer (is, failed, same, h) =
       (is, failed, untouched same, λ V b. h V (was V b.0 b.1))
   show_ends text (Err (Listener f)) unsent old new writer h = h
-  show_ends text (Err (Rights f)) unsent old new writer h = h
+  show_ends text (Err (Unread about f)) unsent old new writer h = h
   show_ends text (Err (stop.Batch f)) unsent old new writer h = h
 
   carries_to : (cs : List Command) (V : Content) (r : Result Verdict Fault) → H
@@ -419,7 +419,7 @@ module _ (H : Type 0) (O N : Content → Type 0) (L : Content → Content → Ty
       (silent, carries_out (begin_of lists) (Err f) h)
   begin_ends lists (Err (Service f)) unsent h = h
   begin_ends lists (Err (Listener f)) unsent h = h
-  begin_ends lists (Err (Rights f)) unsent h = h
+  begin_ends lists (Err (Unread about f)) unsent h = h
   begin_ends lists (Err (stop.Batch f)) unsent h = h
 
   pub sweep_ends : (who : Asker) (now : ℕ) (r : Result Outcome Stop) (unsent : Type 0)
@@ -435,7 +435,7 @@ module _ (H : Type 0) (O N : Content → Type 0) (L : Content → Content → Ty
   sweep_ends who now (Err (Service f)) unsent old new writer (is, failed, (count, h, part)) =
       (is, failed, (count, sweeps who now (Ok (Ok count)) h, part))
   sweep_ends who now (Err (Listener f)) unsent old new writer h = h
-  sweep_ends who now (Err (Rights f)) unsent old new writer h = h
+  sweep_ends who now (Err (Unread about f)) unsent old new writer h = h
   sweep_ends who now (Err (stop.Batch f)) unsent old new writer h = h
 
   pub timed_sweep_ends : (giver : Giver) (who : Asker) (now : ℕ) (r : Result Outcome Stop)

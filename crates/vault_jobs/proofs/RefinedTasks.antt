@@ -15,7 +15,7 @@ use Rattle.vault_jobs.specs.Lists.{asked_of, begin_of}
 use Rattle.vault_jobs.specs.Outside.{Outside}
 use Rattle.vault_jobs.specs.Streams.{Known, Streams, output_with, seen_as}
 use Rattle.vault_jobs.specs.declared.stop.Stop.{Stop}
-use Rattle.vault_jobs.specs.declared.stop.Stop.TheVariants.{Vault, Service, Listener, Rights}
+use Rattle.vault_jobs.specs.declared.stop.Stop.TheVariants.{Vault, Service, Listener, Unread}
 use Rattle.vault_jobs.specs.declared.stop.Stop.TheVariants as stop
 use Rattle.vault_jobs.specs.declared.task.Outcome.{Outcome}
 use Rattle.vault_jobs.specs.declared.task.Outcome.TheVariants as outcome
@@ -66,7 +66,7 @@ module _ (H : Type 0) (O N : Content → Type 0) (L : Content → Content → Ty
   batch_ends tells who now digits (Err (Vault f)) unread unsent h = h
   batch_ends tells who now digits (Err (Service f)) unread unsent h = h
   batch_ends tells who now digits (Err (Listener f)) unread unsent h = h
-  batch_ends tells who now digits (Err (Rights f)) unread unsent h = h
+  batch_ends tells who now digits (Err (Unread about f)) unread unsent h = h
   batch_ends tells who now digits (Err (stop.Batch f)) unread unsent (inl (is, calm, silent, same)) =
       inl (is, calm, silent, untouched H O N L w was kept torn same)
   batch_ends tells who now digits (Err (stop.Batch f)) unread unsent (inr (pairs, few, fixed, h)) =
@@ -85,7 +85,7 @@ module _ (H : Type 0) (O N : Content → Type 0) (L : Content → Content → Ty
   pipe_ends tells now digits (Err (Service f)) unread unsent (inr (pairs, few, fixed, h)) =
       inr (pairs, few, fixed, stops_piping H O N L _ was kept torn s.left_old s.left_new f h)
   pipe_ends tells now digits (Err (Listener f)) unread unsent h = h
-  pipe_ends tells now digits (Err (Rights f)) unread unsent h = h
+  pipe_ends tells now digits (Err (Unread about f)) unread unsent h = h
   pipe_ends tells now digits (Err (stop.Batch f)) unread unsent h = h
 
   works : (at : Outside) (task : Task) (r : Result Outcome Stop) (unread unsent : Type 0)

@@ -4,9 +4,10 @@ use Rattle.std.specs.declared.io.ErrorKind.{ErrorKind}
 use Rattle.vault_engine.specs.declared.stop.Stop.{Stop as ServeFault}
 use Rattle.vault_batch.specs.declared.fault.BatchFault.{BatchFault}
 use Rattle.vault_listen.specs.declared.fault.ListenFault.{ListenFault}
+use Rattle.vault_live.specs.declared.subject.Subject.{Subject}
 use Rattle.vault_store.specs.declared.vault.Fault.{Fault}
 use Rattle.vault_jobs.specs.declared.stop.Stop.{Stop}
-use Rattle.vault_jobs.specs.declared.stop.Stop.TheVariants.{Vault, Service, Listener, Rights, Batch}
+use Rattle.vault_jobs.specs.declared.stop.Stop.TheVariants.{Vault, Service, Listener, Unread, Batch}
 use Rattle.vault_jobs.specs.declared.task.Outcome.{Outcome}
 use Rattle.vault_jobs.specs.declared.task.Outcome.TheVariants.{Done, Refused, SomeRefused}
 
@@ -18,7 +19,7 @@ pub record Outcomes : Type 1 where
   pub vault : Fault → Type 0
   pub service : ServeFault → Type 0
   pub listener : ListenFault → Type 0
-  pub rights : ErrorKind → Type 0
+  pub unread : Subject → ErrorKind → Type 0
   pub batch : BatchFault → Type 0
 
 -- none of them comes
@@ -30,7 +31,7 @@ no_outcome = record {
   vault = λ f. ⊥;
   service = λ f. ⊥;
   listener = λ f. ⊥;
-  rights = λ f. ⊥;
+  unread = λ about f. ⊥;
   batch = λ f. ⊥;
 }
 
@@ -42,5 +43,5 @@ ComesTo it (Ok SomeRefused) = it.some_refused
 ComesTo it (Err (Vault f)) = it.vault f
 ComesTo it (Err (Service f)) = it.service f
 ComesTo it (Err (Listener f)) = it.listener f
-ComesTo it (Err (Rights f)) = it.rights f
+ComesTo it (Err (Unread about f)) = it.unread about f
 ComesTo it (Err (Batch f)) = it.batch f

@@ -12,7 +12,7 @@ use Rattle.vault_store.specs.declared.vault.Vault.{Vault as Held}
 use Rattle.vault_jobs.specs.Lists.{follows}
 use Rattle.vault_jobs.specs.Streams.{Streams}
 use Rattle.vault_jobs.specs.declared.stop.Stop.{Stop}
-use Rattle.vault_jobs.specs.declared.stop.Stop.TheVariants.{Vault, Service, Listener, Rights}
+use Rattle.vault_jobs.specs.declared.stop.Stop.TheVariants.{Vault, Service, Listener, Unread}
 use Rattle.vault_jobs.specs.declared.stop.Stop.TheVariants as stop
 use Rattle.vault_jobs.specs.declared.task.Outcome.{Outcome}
 use Rattle.vault_jobs.specs.declared.task.Task.{Task}
@@ -69,7 +69,7 @@ FailsStore (Ok end) = ⊥
 FailsStore (Err (Vault f)) = f ≡ vault.Store
 FailsStore (Err (Service f)) = f ≡ service.Store
 FailsStore (Err (Listener f)) = f ≡ listener.Store
-FailsStore (Err (Rights f)) = ⊥
+FailsStore (Err (Unread about f)) = ⊥
 FailsStore (Err (stop.Batch f)) = f ≡ row.Store
 
 -- the vault is broken only where the store failed
