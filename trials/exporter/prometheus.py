@@ -19,6 +19,7 @@ CALM = {
     'vault_full_ratio{merchant="shop1"}': 0.5,
     'vault_numbers_denied{merchant="shop1"}': 20,
     'vault_numbers_given{merchant="shop1"}': 50000,
+    'vault_tokens_made{merchant="shop1"}': 500000,
     'vault_disk_used_ratio{folder="/srv"}': 0.5,
     'vault_inodes_used_ratio{folder="/srv"}': 0.5,
     'vault_folder_there{folder="/srv"}': 1,
@@ -33,18 +34,21 @@ CALM = {
     'vault_caller_refused{caller="till-1",status="429"}': 20,
     'haproxy_backend_current_queue{proxy="vault"}': 3,
     'haproxy_frontend_requests_denied_total{proxy="callers"}': 5,
+    'haproxy_backend_http_responses_total{proxy="vault",code="4xx"}': 5,
 }
 # a vault that was restored: its counts have fallen
 RESTORED = {
     **CALM,
     'vault_numbers_denied{merchant="shop1"}': 15,
     'vault_numbers_given{merchant="shop1"}': 49970,
+    'vault_tokens_made{merchant="shop1"}': 499990,
 }
 BAD = {
     'vault_up{merchant="shop1"}': 0,
     'vault_full_ratio{merchant="shop1"}': 0.9,
     'vault_numbers_denied{merchant="shop1"}': 60,
     'vault_numbers_given{merchant="shop1"}': 50500,
+    'vault_tokens_made{merchant="shop1"}': 510000,
     'vault_disk_used_ratio{folder="/srv"}': 0.9,
     'vault_inodes_used_ratio{folder="/srv"}': 0.99,
     'vault_folder_there{folder="/srv"}': 0,
@@ -60,10 +64,11 @@ BAD = {
     'vault_caller_refused{caller="till-1",status="429"}': 2000,
     'haproxy_backend_current_queue{proxy="vault"}': 500,
     'haproxy_frontend_requests_denied_total{proxy="callers"}': 5000,
+    'haproxy_backend_http_responses_total{proxy="vault",code="4xx"}': 5000,
 }
 # what speaks for as long as its window is, which is short here
 LASTING = (
-    r"(vault_clock_jumped_seconds|vault_numbers_unlogged|haproxy_frontend_requests_denied_total\{[^}]*\})\[\w+\]"
+    r"(vault_clock_jumped_seconds|vault_numbers_unlogged|haproxy_\w+_total\{[^}]*\})\[\w+\]"
 )
 CONFIGURATION = """global: {{scrape_interval: 1s, evaluation_interval: 1s}}
 rule_files: [hasty.yaml]

@@ -43,6 +43,9 @@ NEEDLESS = (
 # The front's log is its own output here, and it has no need of IPv6.
 HERE = (
     ("log /dev/log local0", "log stdout format raw local0"),
+    ("log /vault/log local0", "log stdout format raw local0"),
+    # its tills ask for more tokens than a till has in a day
+    ("set-var(txn.class) str(till)", "set-var(txn.class) str(batch)"),
     ("bind :8443,[::]:8443 v6only", "bind :8443"),
 )
 FENCE = "stonith:fence_ipmilan"
