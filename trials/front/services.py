@@ -52,10 +52,10 @@ class Vault:
         return self.service.process
 
     def list(self, rights):
-        """From its next start on its rights are those of a rights file with these lines, and no others."""
+        """From its next start on its rights are those of a rights file with this text, and no others."""
         path = f"{self.merchant}.toml"
         with open(path, "w") as file:
-            file.write(f"{rights.rstrip()}\n# end\n")
+            file.write(rights)
         self.listed = ["--rights", path]
 
 
