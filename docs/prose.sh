@@ -10,7 +10,7 @@ bench/RUNS.md 2500
 docs/ARCHITECTURE.md 1200
 docs/CONTRIBUTING.md 1250
 docs/DECISIONS.md 2700
-docs/LIMITS.md 1500
+docs/LIMITS.md 1570
 docs/MODEL.md 1500
 docs/PROVED.md 1200
 docs/STANDBY.md 1200'

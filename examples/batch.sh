@@ -160,5 +160,5 @@ step "42, 46: and the file is as it was" 'sound 1 9 11 (0)' "$(checked vault.db)
 # Nothing that is said beside the lines has a card number, or as many digits as one.
 said=$(wc -l < errors | tr -d ' ')
 found=$(grep -c '[0-9][0-9 -]\{8,\}[0-9]' errors || true)
-step "no card number is on standard error" '13 lines, 0 with one' "$said lines, $found with one"
+step "no card number is on standard error" '14 lines, 0 with one' "$said lines, $found with one"
 end
