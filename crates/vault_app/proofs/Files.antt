@@ -121,7 +121,7 @@ module _ {D : Type 0} {g : Ghosts D} (world : World) (path : List ℕ) (unread u
         → IfSome left (λ it. Each (world.holds path) (λ image. ¬ MayFindNone image → StaysWhole image it))
         → unread → unsent → EndsOnFile world path left task (NotOpened why) (seen_as unread unsent s)
     refused_file None task why is there tells stays same calm silent =
-        (why, refl, inl (inl (refused_by (world.refuses path) why (is.1 refl) there)), calm, silent)
+        (why, refl, inl (refused_by (world.refuses path) why (is.1 refl) there), calm, silent)
     refused_file (Some left) task why is there tells stays same calm silent =
         (record { tells = tells; stays = stays; same = same }, calm, silent)
 

@@ -53,8 +53,9 @@ IsShow t = (it : Shown) × (t ≡ Show it)
 -- says what is there, and nothing is, or memory was refused while that was looked at.
 abbrev pub LeavesAlone : World → List ℕ → Task → FileFault → Type 0
 LeavesAlone world path task why =
-    IsRefusedBy (world.refuses path) why ⊎ (why ≡ file.Refused Missing) × IsShow task × world.lacks path
-    ⊎ (why ≡ file.Fault Memory) × IsShow task
+    IsRefusedBy (world.refuses path) why
+    ⊎ ((why ≡ file.Refused Missing) × IsShow task × world.lacks path
+    ⊎ (why ≡ file.Fault Memory) × IsShow task)
 
 module _ {D : Type 0} {g : Ghosts D} where
   -- The passage of the vault in files that were opened by this connection, and are left, closed. All of it

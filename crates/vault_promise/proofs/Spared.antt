@@ -7,6 +7,7 @@ use Rattle.sqlite_wal.specs.Recovery.{Image}
 use Rattle.vault_core.specs.Sound.{Sound}
 use Rattle.vault_core.specs.Vault.{Vault as Content}
 use Rattle.vault_core.specs.declared.command.Command.{Command}
+use Rattle.vault_file.specs.Faults.{IsRefusedBy}
 use Rattle.vault_file.specs.Found.{IsNoVerdict, SparesStopped}
 use Rattle.vault_core.specs.Proper.{IsProper}
 use Rattle.vault_jobs.specs.Streams.{Known, Output, Streams, output_with}
@@ -28,6 +29,8 @@ use Rattle.vault_jobs.specs.declared.trial.Trial.{Trial}
 use Rattle.clap.specs.declared.error.kind.ErrorKind.TheVariants.{DisplayHelp}
 use Rattle.vault_file.specs.declared.fault.NotOpened.{NotOpened as FileFault}
 use Rattle.vault_file.specs.declared.fault.NotOpened.TheVariants as file
+use Rattle.vault_recover.specs.declared.unopened.Unopened.{Unopened}
+use Rattle.vault_recover.specs.declared.unopened.Unopened.TheVariants.{Missing}
 use Rattle.vault_verdict.specs.declared.fault.OpenFault.TheVariants.{Memory}
 use Rattle.vault_verdict.specs.declared.sizes.Sizes.{Sizes}
 use Rattle.vault_app.specs.declared.ending.Ending.{Ending}
@@ -57,11 +60,12 @@ new_spared image why spares V c sound proper (inr (none, empty, (before, blank, 
     spares.first before blank first
 
 -- the file itself is refused, and not for what it holds
-pub itself : IsNoVerdict file.Refused
-itself = (
+pub itself : (Is : Unopened → Type 0) (why : FileFault) → IsRefusedBy Is why → IsNoVerdict why
+itself Is (file.Refused cause) refused = (
   λ same. let is : 34 ≡ 30 = same in absurd (omega (arith, is)),
   λ same. let is : 34 ≡ 31 = same in absurd (omega (arith, is)),
 )
+itself Is (file.Fault fault) refused = absurd refused
 
 -- or memory was refused
 no_memory : IsNoVerdict (file.Fault Memory)
@@ -90,7 +94,7 @@ none_checked g world (Ok sizes) path h it log unsent old new writer tells =
     refused)
 none_checked g world (Err why) path h it log unsent old new writer tells =
     spared_by it why tells.0 (elim h [
-      | inl refused ↦ subst IsNoVerdict (sym refused.0) itself
+      | inl refused ↦ itself (world.refuses path) why refused
       | inr starved ↦ subst IsNoVerdict (sym starved) no_memory
     ])
 
@@ -101,13 +105,15 @@ pub none_moved : {D : Type 0} (g : Ghosts D) (world : World) (told : Result ℤ 
     → IsSpared it × (IsDone it.ending → AsksMove it.words → ⊥)
 none_moved g world (Ok version) path h it was_empty unsent old new writer tells = absurd h
 none_moved g world (Err why) path h it was_empty unsent old new writer tells =
-    (spared_by it why tells.0 (subst IsNoVerdict (sym h.0) itself), λ d asks. subst IsDone tells.0 d)
+    (spared_by it why tells.0 (itself (world.refuses path) why h), λ d asks. subst IsDone tells.0 d)
 
 -- why a task left the files alone
 pub left_alone : (world : World) (path : List ℕ) (t : Task) (why : FileFault) → LeavesAlone world path t why
     → IsNoVerdict why
-left_alone world path t why (inl refused) = subst IsNoVerdict (sym refused.0) itself
-left_alone world path t why (inr starved) = subst IsNoVerdict (sym starved.0) no_memory
+left_alone world path t why (inl refused) = itself (world.refuses path) why refused
+left_alone world path t why (inr (inl missing)) =
+    subst IsNoVerdict (sym missing.0) (itself (λ cause. Unit {0}) (file.Refused Missing) tt)
+left_alone world path t why (inr (inr starved)) = subst IsNoVerdict (sym starved.0) no_memory
 
 -- endings before there is a plan, and those of a trial
 early_undone : (world : World) (job : Job) (e : Ending) → EndsBefore world job e → ¬ (IsDone e)

@@ -8,6 +8,7 @@ use Rattle.vault_sql.proofs.Remembering.{nothing_is}
 use Rattle.vault_sql.specs.Held.{Know}
 use Rattle.vault_sql.specs.Places.{IsPast}
 use Rattle.vault_sql.specs.Remembered.{IsOf}
+use Rattle.vault_recover.specs.declared.unopened.Unopened.TheVariants.{Missing}
 use Rattle.vault_app.proofs.Files.{ended, refused_file, works}
 use Rattle.vault_app.specs.Files.{EndsOnFile}
 use Rattle.vault_app.specs.World.{World, outside_in, world_at}
@@ -36,12 +37,13 @@ returns-in-Ok-true g c =
         [],
         none_then (g.N.Network.tells c.args.network.now),
         (
-          file.Refused,
+          file.Refused Missing,
           refl,
-          inl (
+          inr (inl (
             refl,
-            inr (c.only_shows.ensures c.if-only_shows.true, c.in-Ok-true.ensures c.in-Ok-true.field-0-test),
-          ),
+            c.only_shows.ensures c.if-only_shows.true,
+            c.in-Ok-true.ensures c.in-Ok-true.field-0-test,
+          )),
           refl,
           refl,
         ),
@@ -57,7 +59,7 @@ returns-in-Err g c =
         (
           file.Fault Memory,
           refl,
-          inr (refl, c.only_shows.ensures c.if-only_shows.true),
+          inr (inr (refl, c.only_shows.ensures c.if-only_shows.true)),
           refl,
           refl,
         ),

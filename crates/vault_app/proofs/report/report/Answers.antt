@@ -1,7 +1,6 @@
-use Rattle.std.proofs.Common.{ℕ, List, ◌++◌, ◌∙◌, ap, append-nil, codes, refl, subst}
+use Rattle.std.proofs.Common.{ℕ, List, ◌++◌, ◌∙◌, ap, ap₂, append-nil, codes, refl, subst}
 use Rattle.vault_wire.specs.Watching.{inner_of, is_stopped}
 use Rattle.vault_app.specs.Ending.{refusal_line, stop_line}
-use Rattle.vault_jobs.specs.Causes.{refusal_of}
 use Rattle.vault_refusal.specs.Refusal.{number_of}
 use Rattle.vault_live.specs.Told.{Tells}
 use Rattle.vault_app.proofs.report.report.Goals as goal
@@ -52,9 +51,8 @@ returns-in-Stopped-clause-said g c =
     rw c.in-Stopped.is (
       refl,
       subst (λ (t : List ℕ). Tells old new c.tell_lines.new.writer.stopped t)
-          (ap (λ (n : ℕ). stop_line n ++ c.unread.result.now)
-          (c.number-in-Stopped.ensures ∙ ap number_of c.refusal.ensures)
-          ∙ ap (λ (t : List ℕ). stop_line (number_of (refusal_of c.in-Stopped.stop)) ++ t) c.unread.ensures)
+          (ap₂ (λ (n : ℕ) (t : List ℕ). stop_line n ++ t)
+          (c.number-in-Stopped.ensures ∙ ap number_of c.refusal.ensures) c.unread.ensures)
           c.tell_lines.ensures,
     )
 
