@@ -83,7 +83,10 @@ pub(crate) fn do_on_file<P: Paths, K: Timekeeper, N: Network, D: Desk, R: Read, 
 {
     if only_shows(task) {
         match paths.is_empty(rt, path) {
-            Ok(true) => return (Ending::NotOpened(NotOpened::Refused(Unopened::Missing)), None),
+            Ok(true) => return (
+                Ending::NotOpened(NotOpened::Refused(Unopened::Missing)),
+                None,
+            ),
             Ok(false) => {}
             Err(_) => return (Ending::NotOpened(NotOpened::Fault(OpenFault::Memory)), None),
         }

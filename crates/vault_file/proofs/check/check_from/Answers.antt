@@ -65,7 +65,7 @@ returns-in-Err-check-clause-left g c image holds =
     (c.in-Ok.ensures.first image holds)
 
 pub returns-in-Ok-check-clause-no_path : goal.returns-in-Ok-check-clause-no_path
-returns-in-Ok-check-clause-no_path g c none = absurd (c.in-Ok.ensures.no_path none)
+returns-in-Ok-check-clause-no_path g c none = absurd (cc (c.in-Ok.ensures.no_path none))
 
 pub returns-in-Err-check-clause-no_path : goal.returns-in-Err-check-clause-no_path
-returns-in-Err-check-clause-no_path g c none = absurd (c.in-Ok.ensures.no_path none)
+returns-in-Err-check-clause-no_path g c none = absurd (cc (c.in-Ok.ensures.no_path none))

@@ -54,7 +54,7 @@ returns-in-Err-migrate_all-clause-left g c image holds =
     }
 
 pub returns-in-Ok-migrate_all-clause-no_path : goal.returns-in-Ok-migrate_all-clause-no_path
-returns-in-Ok-migrate_all-clause-no_path g c none = absurd (c.in-Ok.ensures.no_path none)
+returns-in-Ok-migrate_all-clause-no_path g c none = absurd (cc (c.in-Ok.ensures.no_path none))
 
 pub returns-in-Err-migrate_all-clause-no_path : goal.returns-in-Err-migrate_all-clause-no_path
-returns-in-Err-migrate_all-clause-no_path g c none = absurd (c.in-Ok.ensures.no_path none)
+returns-in-Err-migrate_all-clause-no_path g c none = absurd (cc (c.in-Ok.ensures.no_path none))

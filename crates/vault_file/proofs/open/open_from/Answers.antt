@@ -14,10 +14,10 @@ returns-in-Ok-open-clause-found g c image holds =
     c.in-Ok-open.ensures.opens.clean
 
 pub returns-in-Ok-open-clause-no_path : goal.returns-in-Ok-open-clause-no_path
-returns-in-Ok-open-clause-no_path g c none = absurd (c.in-Ok.ensures.no_path none)
+returns-in-Ok-open-clause-no_path g c none = absurd (cc (c.in-Ok.ensures.no_path none))
 
 pub returns-in-Err-open-clause-no_path : goal.returns-in-Err-open-clause-no_path
-returns-in-Err-open-clause-no_path g c none = absurd (c.in-Ok.ensures.no_path none)
+returns-in-Err-open-clause-no_path g c none = absurd (cc (c.in-Ok.ensures.no_path none))
 
 pub returns-in-Err-open-clause-rightly : goal.returns-in-Err-open-clause-rightly
 returns-in-Err-open-clause-rightly g c image holds clean =
