@@ -9,14 +9,14 @@ use Rattle.vault_merchants.specs.Faults as merchants
 use Rattle.vault_merchants.specs.ListedMerchants.{Wanted}
 use Rattle.vault_merchants.specs.declared.fault.MerchantsFault.{MerchantsFault}
 use Rattle.vault_refusal.specs.Refusal.{number_of}
-use Rattle.vault_refusal.specs.declared.refusal.Refusal.TheVariants.{NoMerchant, RightsMemory}
+use Rattle.vault_refusal.specs.declared.refusal.Refusal.TheVariants.{NoMerchant, RightsMemory, TooManyMerchants}
 use Rattle.vault_rights.specs.Faults as rights
 use Rattle.vault_rights.specs.Named.{Row}
 use Rattle.vault_rights.specs.declared.fault.RightsFault.{RightsFault}
 use Rattle.vault_store.specs.Listed.{merchant_rows}
 use Rattle.vault_changes.specs.Changes.{changes_at, rights_of}
 use Rattle.vault_changes.specs.Settings.{settings_at}
-use Rattle.vault_live.specs.Known.{lacks_merchant}
+use Rattle.vault_live.specs.Known.{are_too_many, lacks_merchant}
 
 -- which rows a text names
 abbrev pub Naming : Type 0 → Type 1
@@ -25,6 +25,14 @@ Naming X = List ℕ → List X → Type 0
 -- which commands rows ask for at a moment, by the vault that is held
 abbrev pub Wanting : Type 0 → Type 0
 Wanting X = ℕ → List X → Content → List Command
+
+-- by which numbers the vault that is held refuses rows as a whole
+abbrev pub Refusing : Type 0 → Type 1
+Refusing X = List X → Content → ℕ → Type 0
+
+-- the commands are those that the rows ask for, and the vault that is held doesn't refuse the rows
+abbrev pub AreChanges : {X : Type 0} → Wanting X → Refusing X → ℕ → List X → Content → List Command → Type 0
+AreChanges wants refuses now rows V cs = (cs ≡ wants now rows V) × ((number : ℕ) → refuses rows V number → ⊥)
 
 -- a vault that refuses the command is left as it was
 abbrev pub KeepsRefused : Command → Type 0
@@ -52,6 +60,11 @@ rights_changes now rows V = changes_at true now rows (rights_of V)
 -- the commands that set the merchants of the rows that aren't held so
 abbrev pub merchants_changes : Wanting Wanted
 merchants_changes now rows V = settings_at now rows (merchant_rows V)
+
+-- with the merchants of the rows the vault would have too many, which has this number
+abbrev pub ExceedsRoom : List Wanted → Content → ℕ → Type 0
+ExceedsRoom rows V number =
+    (are_too_many (merchant_rows V) rows ≡ true) × (number ≡ number_of TooManyMerchants)
 
 -- the vault lacks the merchant of a row, which has this number
 abbrev pub LacksMerchant : List Row → Content → ℕ → Type 0

@@ -64,6 +64,10 @@ impl<'x> Followed<'x> {
     /// A look found this text, which isn't settled and new: it waits to be seen again, where it is neither
     /// the one in force nor the one that was refused.
     pub(crate) fn wait(&mut self, text: Vec<u8>)
+        // one that was refused doesn't wait
+        ensures once { text_in self.old.refused ≡ Some text.items → pending_of self.new ≡ None }
+        // none is refused by that
+        ensures open { (self.new.refused ≡ self.old.refused) ⊎ (self.new.refused ≡ None) }
         ensures force { in_force self.new ≡ in_force self.old }
         ensures taken { taken_of self.new ≡ taken_of self.old }
         // what waits to be seen again is this text, or nothing
@@ -93,6 +97,8 @@ impl<'x> Followed<'x> {
     /// A settled text is no good list, or isn't whole: the one in force stays, and this one isn't looked into
     /// again until another was seen.
     pub(crate) fn refuse(&mut self, text: Vec<u8>)
+        // it is remembered as refused
+        ensures refused { text_in self.new.refused ≡ Some text.items }
         ensures force { in_force self.new ≡ in_force self.old }
         ensures taken { taken_of self.new ≡ taken_of self.old }
         ensures none { pending_of self.new ≡ None }
@@ -103,6 +109,7 @@ impl<'x> Followed<'x> {
 
     /// The file wasn't read: what comes next has to be seen twice.
     pub(crate) fn lose(&mut self)
+        ensures open { self.new.refused ≡ self.old.refused }
         ensures force { in_force self.new ≡ in_force self.old }
         ensures taken { taken_of self.new ≡ taken_of self.old }
         ensures none { pending_of self.new ≡ None }

@@ -6,7 +6,7 @@ ghost use Rattle.vault_changes.specs.Carried.{IsCarriedOut};
 ghost use Rattle.vault_changes.specs.Failing.{BreaksByStore};
 ghost use Rattle.vault_changes.specs.Grants.{AreDone};
 ghost use Rattle.vault_changes.specs.Settling.{FailsToRead};
-ghost use Rattle.vault_live.specs.Kinds.{AreSteps};
+ghost use Rattle.vault_live.specs.Kinds.{AreChanges, AreSteps};
 ghost use Rattle.vault_live.specs.ListedTexts.{IfFaulty, IfGood};
 ghost use Rattle.vault_live.specs.News.{IsSaidOf};
 ghost use Rattle.vault_store.specs.LookUps.{WasHonest};
@@ -74,7 +74,8 @@ pub trait Kind {
         // with Ok, on an honest disk, the rows ask for these by each vault that was held, or it refuses them
         // so; that one is kept
         ensures found { IfOk result (λ it. OfKept (passage T.Tables vault.old vault.new) (λ V.
-            MatchResult it (λ commands. commands.items ≡ wants now rows.now V) (refuses rows.now V))) }
+            MatchResult it (λ commands. AreChanges wants refuses now rows.now V commands.items)
+            (refuses rows.now V))) }
         // every vault replies to each command by done or a refusal, and lives that it sets are in range
         ensures carried { IfOk result (λ it. IfOk it (λ commands. All IsCarriedOut commands.items)) }
         // on an honest disk they are proper, and one that is refused leaves the vault as it was

@@ -51,6 +51,8 @@ pub(crate) fn take_list<L: Kind>(alloc: Global, list: &mut Followed, text: Vec<u
     // one that is refused is whole, and the number is that of its fault
     ensures faulty { IfRefused result (λ number. (is_whole_text text.items ≡ true)
         × L.faults text.items number) }
+    // one of which nothing is said isn't refused
+    ensures open { result ≡ Taken.Nothing → (list.new.refused ≡ list.old.refused) ⊎ (list.new.refused ≡ None) }
     // what waits to be seen again is this text, or nothing
     ensures pending { (pending_of list.new ≡ None) ⊎ (pending_of list.new ≡ Some text.items) }
 {

@@ -3,6 +3,7 @@ ghost use Rattle.std.specs.Prelude.{◌≡◌, filter, length};
 ghost use Rattle.vault_live.specs.News.{sets as sets_merchant};
 
 use crate::kind::Kind;
+use crate::known::are_too_many;
 use crate::listed::Listed;
 use crate::news::News;
 use crate::subject::Subject;
@@ -12,6 +13,7 @@ use vault_core::command::Command;
 use vault_core::moment::Moment;
 use vault_merchants::fault::MerchantsFault;
 use vault_merchants::read::{ListedMerchant, read_merchants};
+use vault_refusal::refusal::Refusal;
 use vault_store::tables::Tables;
 use vault_store::vault::{Fault, Vault};
 
@@ -35,7 +37,7 @@ fn count_set(commands: &[Command]) -> usize
 
 impl Kind for Merchants {
     ghost use Rattle.vault_merchants.specs.ListedMerchants.{AreListed};
-    ghost use Rattle.vault_live.specs.Kinds.{HasMerchantsFault, merchants_changes};
+    ghost use Rattle.vault_live.specs.Kinds.{ExceedsRoom, HasMerchantsFault, merchants_changes};
     ghost use Rattle.vault_live.specs.declared.subject.Subject.TheVariants.{Merchants};
 
     type Row = ListedMerchant;
@@ -48,7 +50,7 @@ impl Kind for Merchants {
 
     ghost wants = { λ now rows V. merchants_changes now rows V };
 
-    ghost refuses = { λ _ _ _. ⊥ };
+    ghost refuses = { λ rows V number. ExceedsRoom rows V number };
 
     fn subject() -> Subject {
         Subject::Merchants
@@ -68,6 +70,9 @@ impl Kind for Merchants {
         rows: &[ListedMerchant],
         now: Moment,
     ) -> Result<Result<Vec<Command>, u8>, Fault> {
+        if are_too_many(vault, rows)? {
+            return Ok(Err(Refusal::TooManyMerchants.number()));
+        }
         let commands = settings_to(alloc, vault, rows, now)?;
         Ok(Ok(commands))
     }

@@ -11,15 +11,19 @@ use vault_http::served::Served;
 use vault_listen::fault::ListenFault;
 use vault_listen::peers::{Accepted, Peers};
 use vault_listen::time::ClockTime;
+use vault_live::following::Following;
+use vault_live::kind::Kind;
 use vault_live::lists::{ListsKept, ListsOffice, Shops};
+use vault_live::merchants::Merchants;
 use vault_live::remembered::Remembered;
-use vault_live::rights::RightsList;
+use vault_live::rights::{Rights, RightsList};
 use vault_live::turns::serve_turns;
 use vault_script::fakes::{TestReader, TestWriter};
 use vault_script::shops::shop;
 use vault_wire::watched::Watched;
 
-/// Nobody waits so many times, and then one can't be accepted.
+/// Nobody waits so many times, and then one can't be accepted. A turn that waits longer than a quarter of a
+/// second for one is the last.
 #[derive(Drop)]
 pub struct NobodyWaits {
     pub left: Cell<usize>,
@@ -35,7 +39,10 @@ impl Peers for NobodyWaits {
 
     ghost tells = { λ _ _. Unit {0} };
 
-    fn waits(&self, _most: Duration) -> bool {
+    fn waits(&self, most: Duration) -> bool {
+        if most > Duration::from_millis(250) {
+            return true;
+        }
         let left = self.left.get();
         self.left.set(left.saturating_sub(1));
         left == 0
@@ -93,8 +100,13 @@ const OPEN_MORE: &str = "[till-1]\nshop1 = ['tokenize']\n[till-2]\nshop1 = ['vie
 /// The list in force; those that are found at the looks, where an empty one can't be read; and what is said.
 type Case = (&'static str, &'static [&'static str], &'static str);
 
-const CASES: [Case; 21] = [
+const CASES: [Case; 22] = [
     (FIRST, &[FIRST, FIRST, FIRST], ""),
+    (
+        FIRST,
+        &[FAULTY, FAULTY, FAULTY, FAULTY, FAULTY],
+        "rights refused 73 at 1000\n",
+    ),
     (
         FIRST,
         &[MORE, MORE],
@@ -177,8 +189,8 @@ const CASES: [Case; 21] = [
     ),
 ];
 
-/// What is said while nobody connects.
-fn said(rt: &HostRuntime, began: &str, texts: &[&str], output: &mut Vec<u8>) {
+/// What is said while nobody connects, and a list of one kind is followed.
+fn said<L: Kind>(rt: &HostRuntime, began: &str, texts: &[&str], output: &mut Vec<u8>) {
     let alloc = rt.alloc();
     let mut vault = shop(alloc, SHOP);
     if vault.broken() {
@@ -187,7 +199,7 @@ fn said(rt: &HostRuntime, began: &str, texts: &[&str], output: &mut Vec<u8>) {
     let clock = TestClock::stepping(1);
     let time = ClockTime::new(&clock);
     let desk = TestDesk::new(alloc, texts);
-    let office = RightsList::new(alloc, &desk, "rights.toml");
+    let office: Following<TestDesk, L> = Following::new(alloc, &desk, "list.toml");
     let mut kept = Remembered::new(began.as_bytes());
     let mut peers = NobodyWaits {
         left: Cell::new(texts.len().saturating_sub(1)),
@@ -228,7 +240,7 @@ type BothCase = (
     &'static str,
 );
 
-const BOTH_CASES: [BothCase; 10] = [
+const BOTH_CASES: [BothCase; 11] = [
     (SHOPS, &[SHOPS, SHOPS], &[FIRST, FIRST], ""),
     (
         SHOPS,
@@ -272,6 +284,16 @@ const BOTH_CASES: [BothCase; 10] = [
         &[SHOPS, SHOPS, SHOPS, SHOPS_MORE, SHOPS_MORE, SHOPS_MORE],
         &[AT_NINE, AT_NINE, AT_NINE, AT_NINE, AT_NINE, AT_NINE],
         "rights refused 7 at 1000\nmerchants set 1 at 1000\nrights granted 1 withdrawn 0 at 1000\n",
+    ),
+    (
+        SHOPS,
+        &[
+            SHOPS, SHOPS, SHOPS, SHOPS, SHOPS, SHOPS_MORE, SHOPS_MORE, SHOPS_MORE, SHOPS_MORE,
+        ],
+        &[
+            AT_NINE, AT_NINE, AT_NINE, FIRST, FIRST, FIRST, FIRST, FIRST, FIRST,
+        ],
+        "rights refused 7 at 1000\nmerchants set 1 at 1000\n",
     ),
     (
         SHOPS,
@@ -338,7 +360,7 @@ fn two_lists_are_followed(rt: HostRuntime) {
 fn a_list_is_followed_where_two_looks_saw_it(rt: HostRuntime) {
     for (began, texts, wanted) in CASES {
         let mut output = Vec::new(rt.alloc());
-        said(&rt, began, texts, &mut output);
+        said::<Rights>(&rt, began, texts, &mut output);
         assert!(rt; output.as_slice() == wanted.as_bytes(), "{wanted}");
     }
 }
@@ -372,11 +394,67 @@ fn are_said_in_turns(rt: &HostRuntime) -> Result<bool, AllocError> {
     let many = many.as_str();
     let mut output = Vec::new(alloc);
     let texts = [many, many, FIRST, FIRST, FIRST, FIRST, FIRST, FIRST];
-    said(rt, FIRST, &texts, &mut output);
+    said::<Rights>(rt, FIRST, &texts, &mut output);
     Ok(output.as_slice() == IN_TURNS.as_bytes())
 }
 
 #[test]
 fn many_changes_are_said_in_turns_of_a_hundred(rt: HostRuntime) {
     assert!(rt; are_said_in_turns(&rt).unwrap_or(false));
+}
+
+/// A list of so many merchants, of which the vault has none.
+fn shops(alloc: Global, merchants: u64) -> Result<String, AllocError> {
+    let mut text = String::new(alloc);
+    for merchant in 0..merchants {
+        let lines = format!(in alloc; "[m{merchant}]\nsingle = 60\nmulti = 0\n")?;
+        text.push_str(lines.as_str())?;
+    }
+    text.push_str(NONE)?;
+    Ok(text)
+}
+
+/// Whether this is said of a list of so many merchants, that two looks saw, beside the one of the vault.
+fn is_said_of(rt: &HostRuntime, merchants: u64, wanted: &str) -> Result<bool, AllocError> {
+    let text = shops(rt.alloc(), merchants)?;
+    let text = text.as_str();
+    let mut output = Vec::new(rt.alloc());
+    said::<Merchants>(rt, SHOPS, &[text, text], &mut output);
+    Ok(output.as_slice() == wanted.as_bytes())
+}
+
+#[test]
+fn no_merchant_is_set_where_there_would_be_too_many(rt: HostRuntime) {
+    assert!(rt; is_said_of(&rt, 9_999, "merchants set 100 at 1000\n").unwrap_or(false));
+    assert!(rt; is_said_of(&rt, 10_000, "merchants refused 18 at 1000\n").unwrap_or(false));
+}
+
+/// The clock's second at the start, and one too far ahead at the look behind that.
+const JUMPED: [(Option<u64>, u64); 2] = [(Some(1000), 0), (Some(1301), 0)];
+
+#[test]
+fn a_clock_that_jumps_while_nobody_connects_ends_the_service(rt: HostRuntime) {
+    let alloc = rt.alloc();
+    let mut vault = shop(alloc, SHOP);
+    let clock = TestClock::telling(&JUMPED);
+    let time = ClockTime::new(&clock);
+    let desk = TestDesk::new(alloc, &[]);
+    let office = RightsList::new(alloc, &desk, "rights.toml");
+    let mut kept = Remembered::new(FIRST.as_bytes());
+    let mut peers = NobodyWaits { left: Cell::new(9) };
+    let mut generator = StdRng::seed_from_u64(7);
+    let mut output = Vec::new(alloc);
+    let mut writer = Watched::new(TestWriter::Whole(&mut output));
+    let ended = serve_turns(
+        alloc,
+        &time,
+        &mut generator,
+        &mut peers,
+        &office,
+        &mut kept,
+        1,
+        &mut vault,
+        &mut writer,
+    );
+    assert!(rt; ended == Err(ListenFault::Source));
 }

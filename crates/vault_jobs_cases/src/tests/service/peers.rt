@@ -79,8 +79,8 @@ fn takes<H: Net<Listener = TcpListener, Stream = TcpStream> + AllocGlobal + Cloc
 
 #[test]
 fn a_quiet_peer_gives_way_to_one_that_waits(rt: HostRuntime) {
-    assert!(rt; takes(&rt, ASKED.as_bytes(), ANSWERED, 50, 900));
-    assert!(rt; takes(&rt, b"", "", 50, 900));
+    assert!(rt; takes(&rt, ASKED.as_bytes(), ANSWERED, 95, 900));
+    assert!(rt; takes(&rt, b"", "", 95, 900));
 }
 
 #[test]

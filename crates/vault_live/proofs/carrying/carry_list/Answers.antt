@@ -47,7 +47,7 @@ returns-clause-attends g c =
     (λ V b. (c.in-Ok-Ok.ensures.found V b).1) (AsksRows g.L.Kind.wants c.args.now c.args.rows.now)
     c.as_slice-commands.result.now c.carry_first-carried.result.done
     (λ V b. (
-      c.as_slice-commands.ensures.value ∙ ((rw c.in-Ok-Ok.field-0-is at c.in-Ok-Ok.ensures.found) V b).0,
+      c.as_slice-commands.ensures.value ∙ ((rw c.in-Ok-Ok.field-0-is at c.in-Ok-Ok.ensures.found) V b).0.0,
       subst AllProper (sym c.as_slice-commands.ensures.value)
           ((rw c.in-Ok-Ok.field-0-is at c.in-Ok-Ok.ensures.steps) V b).proper,
     ))
@@ -71,7 +71,7 @@ returns-clause-settled g c =
     ((rw c.in-Ok-Ok.field-0-is at c.in-Ok-Ok.ensures.steps) V b).keeps)
     g.L.Kind.about g.L.Kind.wants c.args.now c.args.rows.now
     (λ V b. c.as_slice-commands.ensures.value
-    ∙ ((rw c.in-Ok-Ok.field-0-is at c.in-Ok-Ok.ensures.found) V b).0)
+    ∙ ((rw c.in-Ok-Ok.field-0-is at c.in-Ok-Ok.ensures.found) V b).0.0)
     c.carry_first-carried.result.end c.outcome.result
     (subst (λ ds. Ends c.carry_first-carried.result.end c.carry_first-carried.result.done ds
     (passage g.T.Tables c.changes.new.vault c.carry_first-carried.new.vault))
