@@ -432,10 +432,13 @@ fn no_merchant_is_set_where_there_would_be_too_many(rt: HostRuntime) {
 /// The clock's second at the start, and one too far ahead at the look behind that.
 const JUMPED: [(Option<u64>, u64); 2] = [(Some(1000), 0), (Some(1301), 0)];
 
-#[test]
-fn a_clock_that_jumps_while_nobody_connects_ends_the_service(rt: HostRuntime) {
+/// Whether such a jump ends a service to which nobody connects.
+fn is_ended_by_a_jump(rt: &HostRuntime) -> bool {
     let alloc = rt.alloc();
     let mut vault = shop(alloc, SHOP);
+    if vault.broken() {
+        return false;
+    }
     let clock = TestClock::telling(&JUMPED);
     let time = ClockTime::new(&clock);
     let desk = TestDesk::new(alloc, &[]);
@@ -456,5 +459,10 @@ fn a_clock_that_jumps_while_nobody_connects_ends_the_service(rt: HostRuntime) {
         &mut vault,
         &mut writer,
     );
-    assert!(rt; ended == Err(ListenFault::Source));
+    ended == Err(ListenFault::Source)
+}
+
+#[test]
+fn a_clock_that_jumps_while_nobody_connects_ends_the_service(rt: HostRuntime) {
+    assert!(rt; is_ended_by_a_jump(&rt));
 }
