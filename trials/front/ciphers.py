@@ -18,6 +18,7 @@ ATTACKS = ("-S", "-I", "-T", "-R", "-B")
 # the trial's authority is a file: it publishes no list of revoked certificates on the net, and no record of a
 # domain names it
 NOT_OF_A_FRONT = {"cert_revocation", "DNS_CAArecord"}
+TRIES = 3
 
 
 def is_there(program):
@@ -33,28 +34,40 @@ class Scan:
 
     def __init__(self, port):
         self.port, self.process = port, None
-        words = ("--quiet", "--color", "0", "--warnings", "off", "--ip", "127.0.0.1", "-n", "none", "--fast")
-        words += ("--add-ca", "callers.pem", "--openssl-timeout", "60", "--severity", "LOW")
         if is_there("testssl"):
-            self.process = subprocess.Popen(
-                ["testssl", *words, "--jsonfile", "found.json", *ATTACKS, f"localhost:{port}"],
-                stdout=subprocess.DEVNULL,
-                stdin=subprocess.DEVNULL,
-            )
+            self.begin()
+
+    def begin(self):
+        words = ("--quiet", "--color", "0", "--warnings", "off", "--ip", "127.0.0.1", "-n", "none", "--fast")
+        words += ("--add-ca", "callers.pem", "--openssl-timeout", "60", "--severity", "LOW", "--overwrite")
+        self.process = subprocess.Popen(
+            ["testssl", *words, "--jsonfile", "found.json", *ATTACKS, f"localhost:{self.port}"],
+            stdout=subprocess.DEVNULL,
+            stdin=subprocess.DEVNULL,
+        )
 
     def judge(self, tally):
-        """Nothing is found above `info`; and what sslscan says."""
+        """Nothing is found above `info`; and what sslscan says. A check that testssl gave up says WARN, as on a
+        busy machine, and is made again."""
         self.scanned(tally)
         if self.process is None:
             return
-        # a status above 200 is a fault of testssl's own
-        ended = self.process.wait(600)
-        tally.judge("testssl comes to its end", "" if ended < 200 else f"status {ended}")
-        if ended >= 200:
-            return
-        found = [it for it in json.load(open("found.json")) if it["id"] not in NOT_OF_A_FRONT]
-        told = [f"{it['id']} {it['severity']}: {it['finding']}" for it in found]
+        told, turn = ["WARN"], 0
+        while any("WARN" in it for it in told) and turn < TRIES:
+            if turn:
+                self.begin()
+            turn += 1
+            # a status above 200 is a fault of testssl's own
+            ended = self.process.wait(600)
+            told = self.told() if ended < 200 else [f"status {ended}"]
         tally.judge("testssl finds nothing", unlike(told, []))
+
+    @staticmethod
+    def told():
+        """What it found, in words."""
+        with open("found.json") as file:
+            found = [it for it in json.load(file) if it["id"] not in NOT_OF_A_FRONT]
+        return [f"{it['id']} {it['severity']}: {it['finding']}" for it in found]
 
     def scanned(self, tally):
         """TLS 1.2 and 1.3 alone, and ciphers that keep secret what was said once a key is known."""
