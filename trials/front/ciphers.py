@@ -2,6 +2,7 @@
 may be attacked by. Each is left out, with a line that says so, if it isn't there."""
 
 import json
+import pathlib
 import re
 import shutil
 import subprocess
@@ -38,8 +39,9 @@ class Scan:
             self.begin()
 
     def begin(self):
+        pathlib.Path("found.json").unlink(missing_ok=True)
         words = ("--quiet", "--color", "0", "--warnings", "off", "--ip", "127.0.0.1", "-n", "none", "--fast")
-        words += ("--add-ca", "callers.pem", "--openssl-timeout", "60", "--severity", "LOW", "--overwrite")
+        words += ("--add-ca", "callers.pem", "--openssl-timeout", "60", "--severity", "LOW")
         self.process = subprocess.Popen(
             ["testssl", *words, "--jsonfile", "found.json", *ATTACKS, f"localhost:{self.port}"],
             stdout=subprocess.DEVNULL,
@@ -52,15 +54,17 @@ class Scan:
         self.scanned(tally)
         if self.process is None:
             return
-        told, turn = ["WARN"], 0
-        while any("WARN" in it for it in told) and turn < TRIES:
+        for turn in range(TRIES):
             if turn:
                 self.begin()
-            turn += 1
             # a status above 200 is a fault of testssl's own
             ended = self.process.wait(600)
-            told = self.told() if ended < 200 else [f"status {ended}"]
-        tally.judge("testssl finds nothing", unlike(told, []))
+            told = self.told() if ended < 200 else []
+            if not any("WARN" in it for it in told):
+                break
+        tally.judge("testssl comes to its end", "" if ended < 200 else f"status {ended}")
+        if ended < 200:
+            tally.judge("testssl finds nothing", unlike(told, []))
 
     @staticmethod
     def told():
